@@ -1,0 +1,5 @@
+pub mod Digests
+pub mod Collisions
+pub mod Sha
+pub mod Weak
+pub mod Tagged
