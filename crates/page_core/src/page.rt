@@ -1,0 +1,42 @@
+ghost use Rattle.std.specs.Prelude.{◌≡◌, length};
+ghost use Rattle.page_core.specs.Pages.{IsPage};
+
+use std::marker::Model;
+
+/// A page of memory, of 1,024 bytes. Contracts see the list of its bytes.
+#[derive(Drop)]
+pub struct Page {
+    bytes: [u8; 1024],
+}
+
+impl Model for Page {
+    ghost use Rattle.std.specs.Prelude.{ℕ, List};
+
+    ghost Value = { List ℕ };
+
+    ghost view = { λ p. p.bytes };
+
+    ghost use Rattle.page_core.specs.Pages.{IsPage};
+
+    ghost invariant = { λ p. IsPage p.bytes };
+}
+
+impl Page {
+    /// The bytes of the page.
+    pub fn bytes(&self) -> &[u8; 1024]
+        ensures value { result.now ≡ self.now }
+        ensures page { IsPage self.now }
+    {
+        &self.bytes
+    }
+
+    /// The page of these 1,024 bytes. It takes no memory.
+    pub fn of(bytes: &[u8]) -> Page
+        requires { length bytes.now ≡ 1024 }
+        ensures { result ≡ bytes.now }
+    {
+        let mut page = [0; 1024];
+        page.copy_from_slice(bytes);
+        Page { bytes: page }
+    }
+}

@@ -1,0 +1,9 @@
+pub mod Below
+pub mod Strings
+pub mod Change
+pub mod Pages
+pub mod Made
+pub mod Asked
+pub mod Splits
+pub mod Shown
+pub mod Counts
