@@ -1,0 +1,5 @@
+pub mod Words
+pub mod Arithmetic
+pub mod Registers
+pub mod Rows
+pub mod Classes

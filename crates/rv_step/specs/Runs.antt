@@ -1,0 +1,61 @@
+-- The uncut run: an image and words, one step after the other.
+use Rattle.std.specs.Prelude.{◌≡◌, ℕ, zero, suc, ◌+◌, ◌≤◌, cond, ltb, List, [], ◌++◌, replicate, Option, Some, None, option_and_then}
+use Rattle.rv_isa.specs.declared.fault.Fault.{Fault}
+use Rattle.page_core.specs.Images.{Image}
+use Rattle.rv_step.specs.Machine.{State, Event, Went, Halted, Faulted, step_of, foot_of, step_cost}
+
+-- where the run of an image and input words begins: all registers are zero
+abbrev pub start : Image → List ℕ → State
+start image words = record { pc = image.entry; x = replicate 32 0; memory = image.memory; words = words; journal = []; calls = [] }
+
+abbrev pub state_gone : Event → Option State
+state_gone (Went s) = Some s
+state_gone (Halted code) = None
+state_gone (Faulted fault) = None
+
+-- the state after n steps from s that went
+unfoldable pub after : State → ℕ → Option State
+after s zero = Some s
+after s (suc n) = option_and_then (λ t. state_gone (step_of t)) (after s n)
+
+-- a number at a state, 0 where there is none
+abbrev pub at_some : (State → ℕ) → Option State → ℕ
+at_some f (Some s) = f s
+at_some f None = 0
+
+-- what n steps from s cost
+unfoldable pub spent : State → ℕ → ℕ
+spent s zero = 0
+spent s (suc n) = spent s n + at_some step_cost (after s n)
+
+-- the pages that n steps from s touch
+abbrev pub pages_at : Option State → List ℕ
+pages_at (Some s) = foot_of s
+pages_at None = []
+
+unfoldable pub touched : State → ℕ → List ℕ
+touched s zero = []
+touched s (suc n) = touched s n ++ pages_at (after s n)
+
+-- how a run ends under a limit on its cost
+pub data Outcome : Type 0 where
+  HaltedWith : ℕ → Outcome
+  FaultedAt : Fault → ℕ → ℕ → Outcome
+  OverLimit : ℕ → Outcome
+
+-- what ends a run at its step k, from the state t before that step, the earlier steps having cost c
+abbrev pub ends_with : ℕ → ℕ → Event → Option Outcome
+ends_with k pc (Went u) = None
+ends_with k pc (Halted code) = Some (HaltedWith code)
+ends_with k pc (Faulted fault) = Some (FaultedAt fault pc k)
+
+abbrev pub verdict : ℕ → ℕ → ℕ → State → Option Outcome
+verdict limit c k t = cond (ltb limit (c + step_cost t)) (Some (OverLimit k)) (ends_with k t.pc (step_of t))
+
+-- the outcome of the run from s under a limit
+pub record IsOutcome (s : State) (limit : ℕ) (o : Outcome) : Type 0 where
+  pub step : ℕ
+  pub state : State
+  pub reached : after s step ≡ Some state
+  pub afforded : spent s step ≤ limit
+  pub ended : verdict limit (spent s step) step state ≡ Some o
