@@ -1,0 +1,14 @@
+pub mod Firsts
+pub mod Carries
+pub mod Stretches
+pub mod Induction
+pub mod Strings
+pub mod Codes
+pub mod Images
+pub mod Made
+pub mod Members
+pub mod Judging
+pub mod Links
+pub mod Hashes
+pub mod Vouched
+pub mod Called

@@ -1,0 +1,7 @@
+pub mod Entries
+pub mod Judgement
+pub mod Reports
+pub mod Hashed
+pub mod Vouching
+pub mod Auditing
+pub mod Laws

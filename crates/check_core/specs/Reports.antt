@@ -1,0 +1,63 @@
+-- What a check reports of an accepted bundle. H is the digest function.
+use Rattle.std.specs.Prelude.{ℕ, List, [], ◌∷◌, length, Option, Some, None, option_map, option_and_then}
+use Rattle.claim_types.specs.declared.claim.Exit.{Exit}
+use Rattle.claim_types.specs.declared.claim.Exit.TheVariants.{Split, Halted as HaltedWith}
+use Rattle.claim_types.specs.States.{state_digest}
+use Rattle.claim_types.specs.Claims.{SpanClaim, claim_digest, conditional_digest}
+use Rattle.receipt_types.specs.Seals.{steps_of}
+use Rattle.receipt_types.specs.Bundles.{Entry, Bundle}
+use Rattle.lift_join.specs.Joins.{chain_of}
+
+-- of an entry: the digest of its first state, its exit code, its journal's length and digest, its two claim digests, how many calls, seals and steps it has, and its links
+pub record EntryReport : Type 0 where
+  pub image : List ℕ
+  pub exit : ℕ
+  pub journal_bytes : ℕ
+  pub journal_digest : List ℕ
+  pub conditional : List ℕ
+  pub claim : List ℕ
+  pub calls : ℕ
+  pub seals : ℕ
+  pub steps : ℕ
+  pub links : List ℕ
+
+-- entry 0's journal, and all entries
+pub record Report : Type 0 where
+  pub journal : List ℕ
+  pub entries : List EntryReport
+
+-- the exit code; a chain that is accepted halts
+abbrev pub code_of : Exit → ℕ
+code_of Split = 0
+code_of (HaltedWith code) = code
+
+abbrev pub entry_report : (List ℕ → List ℕ) → Entry → SpanClaim → EntryReport
+entry_report H entry claim = record {
+  image = state_digest H claim.before;
+  exit = code_of claim.exit;
+  journal_bytes = length claim.journal;
+  journal_digest = H claim.journal;
+  conditional = conditional_digest H claim;
+  claim = claim_digest H claim;
+  calls = length claim.calls;
+  seals = length entry.seals;
+  steps = steps_of entry.seals;
+  links = entry.links;
+}
+
+abbrev pub with_report : Option EntryReport → Option (List EntryReport) → Option (List EntryReport)
+with_report (Some report) (Some reports) = Some (report ∷ reports)
+with_report (Some report) None = None
+with_report None reports = None
+
+-- the entries' reports, where each entry has a claim
+abbrev pub entry_reports : (List ℕ → List ℕ) → List Entry → Option (List EntryReport)
+entry_reports H [] = Some []
+entry_reports H (entry ∷ entries) = with_report (option_map (entry_report H entry) (chain_of H entry.seals)) (entry_reports H entries)
+
+-- the bundle's report, where each entry has a claim
+abbrev pub report_of : (List ℕ → List ℕ) → Bundle → Option Report
+report_of H [] = None
+report_of H (entry ∷ entries) =
+    option_and_then (λ claim. option_map (λ reports. record { journal = claim.journal; entries = reports }) (entry_reports H (entry ∷ entries)))
+    (chain_of H entry.seals)

@@ -1,0 +1,48 @@
+-- Claims may be joined in any order.
+use Rattle.std.proofs.Common.{◌≡◌, ◌≢◌, ℕ, Bool, true, false, cond, ◌&&◌, List, [], ◌∷◌, Option, Some, None, refl, sym, ap, ◌∙◌, append_assoc}
+use Rattle.claim_types.specs.Claims.{SpanClaim}
+use Rattle.receipt_types.specs.Seals.{Seal}
+use Rattle.seal_replay.specs.Claiming.{claim_of}
+use Rattle.lift_join.specs.Joins.{is_split, same_state, joined, claim_join, join_both, chain_of}
+use Rattle.lift_join.specs.Laws.{ChainsJoin}
+
+joined_twice : (a b c : SpanClaim) → joined (joined a b) c ≡ joined a (joined b c)
+joined_twice a b c = λ i. record {
+  before = a.before;
+  after = c.after;
+  exit = c.exit;
+  journal = append_assoc a.journal b.journal c.journal i;
+  calls = append_assoc a.calls b.calls c.calls i;
+}
+
+some_three : (a b c : SpanClaim) → join_both (join_both (Some a) (Some b)) (Some c) ≡ join_both (Some a) (join_both (Some b) (Some c))
+some_three a b c = go (is_split a.exit && same_state a.after b.before) (is_split b.exit && same_state b.after c.before) refl refl
+  where
+    go : (p q : Bool) → (is_split a.exit && same_state a.after b.before) ≡ p → (is_split b.exit && same_state b.after c.before) ≡ q
+        → join_both (cond p (Some (joined a b)) None) (Some c) ≡ join_both (Some a) (cond q (Some (joined b c)) None)
+    go true true e f =
+        ap (λ (t : Bool). cond t (Some (joined (joined a b) c)) None) f ∙ ap Some (joined_twice a b c) ∙ sym (ap (λ (t : Bool). cond t (Some (joined a (joined b c))) None) e)
+    go true false e f = ap (λ (t : Bool). cond t (Some (joined (joined a b) c)) None) f
+    go false true e f = sym (ap (λ (t : Bool). cond t (Some (joined a (joined b c))) None) e)
+    go false false e f = refl
+
+none_right : (o : Option SpanClaim) → join_both o None ≡ None
+none_right (Some a) = refl
+none_right None = refl
+
+pub any_order : (x y z : Option SpanClaim) → join_both (join_both x y) z ≡ join_both x (join_both y z)
+any_order None y z = refl
+any_order (Some a) None z = refl
+any_order (Some a) (Some b) None = none_right (claim_join a b)
+any_order (Some a) (Some b) (Some c) = some_three a b c
+
+not_none : (x : Seal) (xs : List Seal) → x ∷ xs ≢ []
+not_none x xs e = cc
+
+pub chains_join : (H : List ℕ → List ℕ) → ChainsJoin H
+chains_join H [] ys n m = absurd (n refl)
+chains_join H (x ∷ xs) [] n m = absurd (m refl)
+chains_join H (x ∷ []) (y ∷ ys) n m = refl
+chains_join H (x ∷ next ∷ xs) (y ∷ ys) n m =
+    ap (join_both (claim_of H x)) (chains_join H (next ∷ xs) (y ∷ ys) (not_none next xs) m)
+    ∙ sym (any_order (claim_of H x) (chain_of H (next ∷ xs)) (chain_of H (y ∷ ys)))

@@ -1,0 +1,4 @@
+use Rattle.receipt_codec.proofs.tree.+read_node.Given as goal
+
+abbrev pub decreases-read_node : goal.decreases-read_node
+decreases-read_node l = l.height

@@ -1,0 +1,15 @@
+//! Receipts from their bytes: part trees and seals, each read from the front of a cursor's bytes.
+//! What keeps its limits has one spelling, no spelling begins another, and nothing else is read.
+#![tactic(auto)]
+
+mod laws;
+mod seal;
+mod stop;
+#[cfg(test)]
+mod tests;
+mod tree;
+
+pub use laws::spelling_laws;
+pub use seal::read_seal;
+pub use stop::ReadStop;
+pub use tree::read_tree;

@@ -1,0 +1,36 @@
+-- Bundles of entries.
+use Rattle.std.specs.Prelude.{◌≢◌, ℕ, zero, suc, List, [], ◌∷◌, Option, Some, None}
+use Rattle.receipt_types.specs.Seals.{Seal, IsSeal}
+
+-- a chain of seals, and for each of its calls the number of an entry
+pub record Entry : Type 0 where
+  pub links : List ℕ
+  pub seals : List Seal
+
+-- a receipt, its entries numbered from 0
+abbrev pub Bundle : Type 0
+Bundle = List Entry
+
+-- the item at a place, if there is one
+abbrev pub item : {A : Type 0} → List A → ℕ → Option A
+item [] n = None
+item (x ∷ xs) zero = Some x
+item (x ∷ xs) (suc n) = item xs n
+
+abbrev pub AreSeals : List Seal → Type 0
+AreSeals [] = Unit {0}
+AreSeals (seal ∷ seals) = IsSeal seal × AreSeals seals
+
+-- an entry as the format has it: at least one seal
+pub record IsEntry (entry : Entry) : Type 0 where
+  pub some_seals : entry.seals ≢ []
+  pub seals : AreSeals entry.seals
+
+abbrev pub AreEntries : List Entry → Type 0
+AreEntries [] = Unit {0}
+AreEntries (entry ∷ entries) = IsEntry entry × AreEntries entries
+
+-- a bundle as the format has it: at least one entry
+pub record IsBundle (B : Bundle) : Type 0 where
+  pub some_entries : B ≢ []
+  pub entries : AreEntries B

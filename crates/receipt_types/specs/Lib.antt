@@ -1,0 +1,5 @@
+pub mod Seals
+pub mod Bundles
+pub mod Limits
+pub mod Spelling
+pub mod Laws

@@ -1,0 +1,38 @@
+-- The limits of a receipt, version 1: the rules on the values of its fields.
+use Rattle.std.specs.Prelude.{◌≡◌, ℕ, ◌+◌, ◌%◌, ◌^◌, ◌<◌, ◌≤◌, List, [], ◌∷◌, length, All}
+use Rattle.part_tree.specs.Canonical.{IsCanonical}
+use Rattle.receipt_types.specs.Seals.{Seal}
+use Rattle.receipt_types.specs.Bundles.{Entry, Bundle}
+
+-- an aligned pc, 1 to 16,777,216 steps, at most 16,777,216 words, and a tree of canonical form
+pub record SealLimits (seal : Seal) : Type 0 where
+  pub aligned : seal.pc % 4 ≡ 0
+  pub is_word : seal.pc < 2 ^ 32
+  pub some_steps : 0 < seal.steps
+  pub few_steps : seal.steps ≤ 16777216
+  pub few_words : length seal.words ≤ 16777216
+  pub are_words : All (λ word. word < 2 ^ 32) seal.words
+  pub tree : IsCanonical seal.tree
+
+abbrev pub AllSealLimits : List Seal → Type 0
+AllSealLimits [] = Unit {0}
+AllSealLimits (seal ∷ seals) = SealLimits seal × AllSealLimits seals
+
+-- entry e of n: at most 16,777,216 links, each to a later entry, and 1 to 65,535 seals
+pub record EntryLimits (e n : ℕ) (entry : Entry) : Type 0 where
+  pub few_links : length entry.links ≤ 16777216
+  pub links : All (λ link. (e < link) × (link < n)) entry.links
+  pub some_seals : 0 < length entry.seals
+  pub few_seals : length entry.seals ≤ 65535
+  pub seals : AllSealLimits entry.seals
+
+-- the entries from entry e of n on
+abbrev pub AllEntryLimits : ℕ → ℕ → List Entry → Type 0
+AllEntryLimits e n [] = Unit {0}
+AllEntryLimits e n (entry ∷ entries) = EntryLimits e n entry × AllEntryLimits (e + 1) n entries
+
+-- 1 to 256 entries
+pub record KeepsLimits (B : Bundle) : Type 0 where
+  pub some_entries : 0 < length B
+  pub few_entries : length B ≤ 256
+  pub entries : AllEntryLimits 0 (length B) B

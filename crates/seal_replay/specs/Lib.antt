@@ -1,0 +1,4 @@
+pub mod Replay
+pub mod Claiming
+pub mod Laws
+pub mod Replaying
