@@ -1,0 +1,5 @@
+pub mod Plain
+pub mod Spelled
+pub mod Judged
+pub mod Ended
+pub mod Text

@@ -1,0 +1,25 @@
+use Rattle.std.proofs.Common.{ℕ, List, take, ap, ◌∙◌, map}
+use Rattle.std.specs.Io.KnownBytes.{append_known}
+use Rattle.std.specs.Prelude.{string_bytes}
+use Rattle.zk_check.proofs.Ended.{done_headlined, ends_printed}
+use Rattle.zk_check.proofs.top.check_top.Goals as goal
+
+pub returns-in-Ok-put-clause-headline : goal.returns-in-Ok-put-clause-headline
+returns-in-Ok-put-clause-headline g c =
+    done_headlined g.D.Digester.digest_of c.headline.ensures.vouches c.limits_give_form.ensures (map string_bytes c.args.words.now) (g.K.Desk.contents c.args.desk.now)
+    c.in-Ok.printed.status (string_bytes c.in-Ok.printed.text) c.in-Ok.ensures.answer
+
+pub returns-in-Ok-put-clause-answer : goal.returns-in-Ok-put-clause-answer
+returns-in-Ok-put-clause-answer g c =
+    ends_printed g.D.Digester.digest_of (map string_bytes c.args.words.now) (g.K.Desk.contents c.args.desk.now)
+    c.in-Ok.printed.status (string_bytes c.in-Ok.printed.text) _ _ c.in-Ok.ensures.answer c.in-Ok.ensures.printed
+    (c.in-Ok-put.ensures.told ∙ ap (append_known (g.O.Sink.taken c.args.out.now)) c.as_bytes.ensures.value)
+
+pub returns-clause-answer : goal.returns-clause-answer
+returns-clause-answer g c =
+    let (k, told) = c.in-Err-put.ensures.told in (
+      c.in-Ok.printed.status,
+      record { lines = string_bytes c.in-Ok.printed.text; answers = c.in-Ok.ensures.answer },
+      k,
+      told ∙ ap (λ (text : List ℕ). append_known (g.O.Sink.taken c.args.out.now) (take k text)) c.as_bytes.ensures.value,
+    )

@@ -1,0 +1,7 @@
+pub mod Numbers
+pub mod Words
+pub mod Lines
+pub mod OneSeal
+pub mod Answers
+pub mod Ends
+pub mod Reported

@@ -1,0 +1,46 @@
+-- The lines that are printed. A line ends with one line feed; counts are decimal, digests and bytes lower-case hexadecimal.
+use Rattle.std.specs.Prelude.{ℕ, List, [], ◌∷◌, ◌++◌, length, sum_by, codes, decimal}
+use Rattle.hex.specs.Hex.{encode_lower}
+use Rattle.check_core.specs.Reports.{EntryReport, Report}
+
+abbrev pub line : List ℕ → List ℕ
+line text = text ++ 10 ∷ []
+
+abbrev pub usage_lines : List ℕ
+usage_lines = line (codes "usage: zk_check check RECEIPT ID [JOURNALFILE] | audit RECEIPT ENTRY ELF | id ELF | inspect RECEIPT")
+
+abbrev pub no_file_lines : List ℕ → List ℕ
+no_file_lines name = line (codes "no-file " ++ name)
+
+abbrev pub too_long_lines : List ℕ → List ℕ
+too_long_lines name = line (codes "too-long " ++ name)
+
+-- the bytes of a journal, where it isn't empty
+abbrev pub journal_tail : List ℕ → List ℕ
+journal_tail [] = []
+journal_tail (byte ∷ bytes) = codes " " ++ encode_lower (byte ∷ bytes)
+
+-- exit code, journal and digests of entry 0, and the numbers of entries, of all seals and of all steps
+abbrev pub report_lines : List ℕ → List EntryReport → List ℕ
+report_lines journal [] = []
+report_lines journal (first ∷ rest) =
+    line (codes "exit " ++ decimal first.exit)
+    ++ line (codes "journal " ++ decimal (length journal) ++ journal_tail journal)
+    ++ line (codes "claim " ++ encode_lower first.claim)
+    ++ line (codes "conditional " ++ encode_lower first.conditional)
+    ++ line (codes "entries " ++ decimal (length (first ∷ rest)))
+    ++ line (codes "seals " ++ decimal (sum_by (λ entry. entry.seals) (first ∷ rest)))
+    ++ line (codes "steps " ++ decimal (sum_by (λ entry. entry.steps) (first ∷ rest)))
+
+abbrev pub valid_lines : Report → List ℕ
+valid_lines report = line (codes "valid") ++ report_lines report.journal report.entries
+
+-- ---- refusals, as far as this program judges
+abbrev pub form_lines : List ℕ
+form_lines = line (codes "refused not-built form")
+
+abbrev pub image_lines : List ℕ → List ℕ
+image_lines found = line (codes "refused image " ++ encode_lower found)
+
+abbrev pub step_lines : ℕ → List ℕ
+step_lines step = line (codes "refused not-built " ++ decimal step)

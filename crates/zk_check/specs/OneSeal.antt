@@ -1,0 +1,13 @@
+-- Receipts of one entry, no links and one seal without input words: the form that this program judges.
+use Rattle.std.specs.Prelude.{◌≡◌, ℕ, List, [], ◌∷◌}
+use Rattle.receipt_types.specs.Seals.{Seal}
+use Rattle.receipt_types.specs.Bundles.{Bundle}
+use Rattle.receipt_types.specs.Spelling.{Spells}
+
+abbrev pub one_seal : Seal → Bundle
+one_seal seal = record { links = []; seals = seal ∷ [] } ∷ []
+
+-- the bytes spell the bundle of this seal, which has no words
+pub record SpellsOne (seal : Seal) (bytes : List ℕ) : Type 0 where
+  pub no_words : seal.words ≡ []
+  pub spells : Spells (one_seal seal) bytes

@@ -1,0 +1,40 @@
+//! Checks receipts: reads one, judges it under an image id, and prints the verdict.
+#![tactic(auto)]
+
+mod job;
+mod judging;
+#[cfg(test)]
+mod made;
+mod printed;
+mod reader;
+mod status;
+#[cfg(test)]
+mod tests;
+mod top;
+
+use crate::status::Status;
+use digest_core::ShaDigester;
+use outside::{DirDesk, StdSink};
+use std::env;
+use std::process::ExitCode;
+
+// The words after the program's name; words that are no text are no words.
+fn words(rt: &HostRuntime) -> Result<Vec<String>, Status> {
+    let Ok(all) = env::args(rt) else {
+        return Ok(Vec::new(rt.alloc()));
+    };
+    all.skip(1).collect(rt.alloc()).map_err(|_| Status::Memory)
+}
+
+fn main(rt: HostRuntime) -> ExitCode {
+    let status = match words(&rt) {
+        Ok(words) => top::check_top::<ShaDigester, _, _>(
+            rt.alloc(),
+            words.as_slice(),
+            &mut DirDesk::new(&rt),
+            &mut StdSink::new(&rt),
+        ),
+        Err(status) => status,
+    };
+    ExitCode::from(status.number())
+}

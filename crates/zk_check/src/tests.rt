@@ -1,0 +1,239 @@
+//! Checks of receipts over a desk and a sink in memory.
+
+use crate::made::{FirstWords, receipt};
+use crate::reader::read_one;
+use crate::status::Status;
+use crate::top::check_top;
+use byte_cursor::{ByteList, Out, WordList};
+use digest_core::{Digester, ShaDigester, WeakDigester, hash};
+use outside::{MemDesk, MemFile, MemFiles, MemSink};
+use std::alloc::{AllocError, Global};
+use std::test::Fail;
+
+// ADDI x17, x0, 0; ADDI x10, x0, 7; ECALL, in the page of address 0x1000; and the registers.
+const HALTS_7: [FirstWords<'static>; 2] = [(4, &[0x893, 0x700513, 0x73]), (262_143, &[])];
+
+const ID: &str = "c4228a6f22f9441888bc855f0f0f64a5460ee1e92971478cc24068c3b8172aac";
+
+const ZEROS: &str = "0000000000000000000000000000000000000000000000000000000000000000";
+
+const VALID: &str = "valid\nexit 7\njournal 0
+claim b858adca5a484e582d131a73877a32084cb5b130eb98c49b829f126aa90c7a7e
+conditional b858adca5a484e582d131a73877a32084cb5b130eb98c49b829f126aa90c7a7e
+entries 1\nseals 1\nsteps 3\n";
+
+const USAGE: &str =
+    "usage: zk_check check RECEIPT ID [JOURNALFILE] | audit RECEIPT ENTRY ELF | id ELF | inspect RECEIPT\n";
+
+fn halts_7<D: Digester>(alloc: Global, steps: u32) -> Result<ByteList, AllocError> {
+    receipt::<D>(alloc, 0x1000, steps, &[], &HALTS_7)
+}
+
+fn byte_list(alloc: Global, bytes: &[u8]) -> Result<ByteList, AllocError> {
+    let mut out = Out::new(alloc);
+    out.put_all(bytes)?;
+    Ok(out.finish())
+}
+
+fn listed(alloc: Global, number: u32) -> Result<WordList, AllocError> {
+    let mut numbers = WordList::new(alloc);
+    numbers.push(number)?;
+    Ok(numbers)
+}
+
+// Answers the words over a file `r`; of the desk's and the sink's calls one fails, 0 being none.
+fn answered<D: Digester>(
+    alloc: Global,
+    texts: &[&str],
+    held: Option<ByteList>,
+    read: u32,
+    put: u32,
+) -> Result<(Status, MemSink), AllocError> {
+    let mut files = MemFiles::new(alloc);
+    files.push(MemFile {
+        name: byte_list(alloc, b"r")?,
+        held,
+        room: 0,
+    })?;
+    let mut desk = MemDesk::new(alloc, files, listed(alloc, read)?)?;
+    let mut sink = MemSink::new(alloc, 1_000, listed(alloc, put)?)?;
+    let mut words = Vec::new(alloc);
+    for text in texts {
+        words.push(String::from_str(alloc, text)?)?;
+    }
+    let status = check_top::<D, _, _>(alloc, words.as_slice(), &mut desk, &mut sink);
+    Ok((status, sink))
+}
+
+#[test]
+fn a_run_that_halts_is_valid(rt: HostRuntime) -> Result<(), Fail> {
+    let held = halts_7::<ShaDigester>(rt.alloc(), 3)?;
+    assert_eq!(rt; held.len(), 3_235);
+    let stored = "637178690cddbaeeed812fde63be6ea5a974366fe23ee051648dbdb1ccecf268";
+    let found = hex::encode(
+        rt.alloc(),
+        hash::<ShaDigester>(held.as_slice()).bytes().as_slice(),
+    )?;
+    assert_eq!(rt; found.as_str(), stored);
+    let (status, sink) = answered::<ShaDigester>(
+        rt.alloc(),
+        &["check", "r", ID],
+        Some(held),
+        0,
+        0,
+    )?;
+    assert_eq!(rt; status, Status::Done);
+    assert_eq!(rt; sink.taken(), VALID.as_bytes());
+    Ok(())
+}
+
+#[test]
+fn another_id_is_refused_with_the_found_id(rt: HostRuntime) -> Result<(), Fail> {
+    let held = halts_7::<ShaDigester>(rt.alloc(), 3)?;
+    let (status, sink) = answered::<ShaDigester>(
+        rt.alloc(),
+        &["check", "r", ZEROS],
+        Some(held),
+        0,
+        0,
+    )?;
+    assert_eq!(rt; status, Status::Refused);
+    let line = b"refused image c4228a6f22f9441888bc855f0f0f64a5460ee1e92971478cc24068c3b8172aac\n";
+    assert_eq!(rt; sink.taken(), line.as_slice());
+    Ok(())
+}
+
+#[test]
+fn other_bytes_are_refused_by_form(rt: HostRuntime) -> Result<(), Fail> {
+    let whole = halts_7::<ShaDigester>(rt.alloc(), 3)?;
+    // Nothing, the first four bytes, one byte short and one byte long.
+    for length in [0, 4, 3_234, 3_236] {
+        let mut out = Out::new(rt.alloc());
+        for byte in whole.as_slice().iter().take(length) {
+            out.put_u8(*byte)?;
+        }
+        if length > whole.len() {
+            out.put_u8(0)?;
+        }
+        let held = out.finish();
+        assert_eq!(rt; held.len(), length);
+        let (status, sink) = answered::<ShaDigester>(
+            rt.alloc(),
+            &["check", "r", ID],
+            Some(held),
+            0,
+            0,
+        )?;
+        assert_eq!(rt; status, Status::Refused);
+        assert_eq!(rt;
+            sink.taken(),
+            b"refused not-built form\n".as_slice(),
+            "of {length}"
+        );
+    }
+    Ok(())
+}
+
+#[test]
+fn steps_other_than_the_run_s_are_refused_at_step_2(rt: HostRuntime) -> Result<(), Fail> {
+    for steps in [2, 4] {
+        let held = halts_7::<ShaDigester>(rt.alloc(), steps)?;
+        let (status, sink) = answered::<ShaDigester>(
+            rt.alloc(),
+            &["check", "r", ID],
+            Some(held),
+            0,
+            0,
+        )?;
+        assert_eq!(rt; status, Status::Refused);
+        assert_eq!(rt;
+            sink.taken(),
+            b"refused not-built 2\n".as_slice(),
+            "of {steps}"
+        );
+    }
+    Ok(())
+}
+
+#[test]
+fn input_words_are_refused_by_form(rt: HostRuntime) -> Result<(), Fail> {
+    let held = receipt::<ShaDigester>(rt.alloc(), 0x1000, 3, &[5, 6], &HALTS_7)?;
+    let (status, sink) = answered::<ShaDigester>(
+        rt.alloc(),
+        &["check", "r", ID],
+        Some(held),
+        0,
+        0,
+    )?;
+    assert_eq!(rt; status, Status::Refused);
+    assert_eq!(rt; sink.taken(), b"refused not-built form\n".as_slice());
+    Ok(())
+}
+
+#[test]
+fn an_absent_receipt_is_named(rt: HostRuntime) -> Result<(), Fail> {
+    let (status, sink) = answered::<ShaDigester>(rt.alloc(), &["check", "r", ID], None, 0, 0)?;
+    assert_eq!(rt; status, Status::NoFile);
+    assert_eq!(rt; sink.taken(), b"no-file r\n".as_slice());
+    Ok(())
+}
+
+#[test]
+fn a_read_or_a_put_that_fails_prints_nothing(rt: HostRuntime) -> Result<(), Fail> {
+    for (read, put, failed) in [
+        (1, 0, Status::ReadFault),
+        (2, 0, Status::ReadFault),
+        (0, 1, Status::WriteFault),
+    ] {
+        let held = halts_7::<ShaDigester>(rt.alloc(), 3)?;
+        let (status, sink) = answered::<ShaDigester>(
+            rt.alloc(),
+            &["check", "r", ID],
+            Some(held),
+            read,
+            put,
+        )?;
+        assert_eq!(rt; status, failed);
+        assert_eq!(rt; sink.taken().len(), 0);
+    }
+    Ok(())
+}
+
+#[test]
+fn words_in_no_row_give_the_usage(rt: HostRuntime) -> Result<(), Fail> {
+    let rows: [&[&str]; 6] = [
+        &[],
+        &["check", "r"],
+        &["check", "r", "c422"],
+        &["check", "", ID],
+        &["prove", "r", ID],
+        &["check", "r", ID, "j"],
+    ];
+    for words in rows {
+        let (status, sink) = answered::<ShaDigester>(rt.alloc(), words, None, 0, 0)?;
+        assert_eq!(rt; status, Status::Words);
+        assert_eq!(rt; sink.taken(), USAGE.as_bytes());
+    }
+    Ok(())
+}
+
+#[test]
+fn weak_digests_of_the_same_run(rt: HostRuntime) -> Result<(), Fail> {
+    let held = halts_7::<WeakDigester>(rt.alloc(), 3)?;
+    let seal = read_one(rt.alloc(), held.as_slice())?;
+    let page = hash::<WeakDigester>(seal.tree.page(4).ok_or("closed")?.bytes().as_slice());
+    assert_eq!(rt; page.bytes().as_slice().first_chunk(), Some(&[0x96, 0x00]));
+    let root = seal.tree.root::<WeakDigester>();
+    assert_eq!(rt; root.bytes().as_slice().first_chunk(), Some(&[0x16, 0x40]));
+    let (status, sink) = answered::<WeakDigester>(
+        rt.alloc(),
+        &["check", "r", ZEROS],
+        Some(held),
+        0,
+        0,
+    )?;
+    assert_eq!(rt; status, Status::Refused);
+    let line = b"refused image d046000000000000000000000000000000000000000000000000000000000000\n";
+    assert_eq!(rt; sink.taken(), line.as_slice());
+    Ok(())
+}

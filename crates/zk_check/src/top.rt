@@ -1,0 +1,88 @@
+ghost use Rattle.std.specs.Prelude.{◌≡◌, ◌+◌, ◌≤◌, ◌⊎◌, map, string_bytes, IfOk, IfErr};
+ghost use Rattle.outside.specs.Faults.{Rose};
+ghost use Rattle.zk_check.specs.Words.{job_of};
+ghost use Rattle.zk_check.specs.Answers.{Answers, IsHeadlined};
+ghost use Rattle.zk_check.specs.Ends.{Ends, IsPrinted, OnReceipt, IsValidPut};
+
+use crate::job::parse;
+use crate::judging::judge;
+use crate::printed::Printed;
+use crate::status::Status;
+use check_core::headline;
+use digest_core::Digester;
+use outside::{Desk, ReadAllStop, Sink, read_all};
+use receipt_types::limits_give_form;
+use std::alloc::{AllocError, Global};
+
+// The most bytes of a receipt.
+const RECEIPT_LIMIT: u64 = 1_073_741_824;
+
+/// Answers the words, and prints the answer in one put. The words are `check`, the receipt's name and
+/// the image id's 64 hexadecimal digits; the receipt has one entry, no links and one seal without
+/// input words, and its steps are LUI, ADDI and ECALL with 0 in x17. Files are as before.
+pub fn check_top<D: Digester, K: Desk, O: Sink>(
+    alloc: Global,
+    words: &[String],
+    desk: &mut K,
+    out: &mut O,
+) -> Status
+    // With status 0 the receipt's bytes, where told, spell a bundle of one seal that is accepted under the id, and the sink has exactly
+    // the lines of its report appended.
+    ensures valid { result ≡ Status.Done → OnReceipt (job_of (map string_bytes words.now)) (K.contents desk.old) (λ job bytes.
+        IsValidPut D.digest_of job.id bytes (O.taken out.old) (O.taken out.new)) }
+    // Each entry then vouches for each image of its first state's id, or two strings among those hashed for bundle and image collide.
+    ensures headline { result ≡ Status.Done → OnReceipt (job_of (map string_bytes words.now)) (K.contents desk.old) (λ job bytes.
+        IsHeadlined D.digest_of job.id bytes) }
+
+    // The status and the lines are those of an answer, but for a fault and want of memory.
+    ensures answer { Ends D.digest_of (map string_bytes words.now) (K.contents desk.old) result (O.taken out.old) (O.taken out.new) }
+    ensures read_fault { result ≡ Status.ReadFault → Rose (K.read_faults desk.old) (K.read_faults desk.new) }
+    ensures write_fault { result ≡ Status.WriteFault → Rose (O.faults out.old) (O.faults out.new) }
+
+    ensures one_put { O.calls out.new ≤ O.calls out.old + 1 }
+    ensures files { K.contents desk.new ≡ K.contents desk.old }
+{
+    headline::<D>();
+    limits_give_form();
+    match answer::<D, K>(alloc, words, desk) {
+        Err(silent) => silent,
+        Ok(printed) => match out.put(printed.text.as_bytes()) {
+            Ok(()) => printed.status,
+            Err(_) => Status::WriteFault,
+        },
+    }
+}
+
+// The answer to the words, or the status of an end that prints nothing.
+fn answer<D: Digester, K: Desk>(
+    alloc: Global,
+    words: &[String],
+    desk: &mut K,
+) -> Result<Printed, Status>
+    ensures answer { IfOk result (λ printed. Answers D.digest_of (map string_bytes words.now) (K.contents desk.old) printed.status (string_bytes printed.text)) }
+    ensures printed { IfOk result (λ printed. IsPrinted printed.status) }
+    ensures silent { IfErr result (λ status. (status ≡ Status.Memory) ⊎ ((status ≡ Status.ReadFault) × Rose (K.read_faults desk.old) (K.read_faults desk.new))) }
+    ensures files { K.contents desk.new ≡ K.contents desk.old }
+{
+    let Some(job) = parse(words) else {
+        return or_memory(Printed::usage(alloc));
+    };
+    match read_all(alloc, desk, job.receipt, RECEIPT_LIMIT) {
+        Ok(bytes) => or_memory(judge::<D>(alloc, bytes.as_slice(), &job.id)),
+        Err(ReadAllStop::NoFile) => or_memory(Printed::no_file(alloc, job.receipt)),
+        Err(ReadAllStop::TooLong) => or_memory(Printed::too_long(alloc, job.receipt)),
+        Err(ReadAllStop::Fault) => Err(Status::ReadFault),
+        Err(ReadAllStop::Memory) => Err(Status::Memory),
+    }
+}
+
+// An answer, or the status of want of memory.
+fn or_memory(printed: Result<Printed, AllocError>) -> Result<Printed, Status>
+    ensures ok { IfOk result (λ made. printed ≡ Ok made) }
+    ensures err { IfErr result (λ status. status ≡ Status.Memory) }
+{
+    match printed {
+        Ok(printed) => Ok(printed),
+        Err(_) => Err(Status::Memory),
+    }
+}

@@ -1,0 +1,28 @@
+#!/bin/bash
+# Builds zk_check, then checks a receipt under its image id and under another id.
+set -u
+cd "$(dirname "$0")/crates/zk_check" || exit 1
+
+receipt=data/halts_7.receipt
+id=c4228a6f22f9441888bc855f0f0f64a5460ee1e92971478cc24068c3b8172aac
+other=0000000000000000000000000000000000000000000000000000000000000000
+
+# Prints a command, runs it, and fails where its status isn't the one that is wanted.
+show() {
+    local wanted=$1
+    shift
+    printf '\n$ %s\n' "$*"
+    "$@"
+    local status=$?
+    printf '(status %s)\n' "$status"
+    [ "$status" = "$wanted" ] || exit 1
+}
+
+echo 'Proves and builds the program; this takes some minutes on a new machine.'
+log=$(mktemp)
+trap 'rm -f "$log"' EXIT
+printf '$ rt run -- check %s %s\n' "$receipt" "$id"
+rt run -- check "$receipt" "$id" >"$log" 2>&1 || { cat "$log"; exit 1; }
+
+show 0 out/zk_check check "$receipt" "$id"
+show 1 out/zk_check check "$receipt" "$other"
