@@ -2,5 +2,9 @@
 #![tactic(auto)]
 
 mod call;
+mod reading;
+#[cfg(test)]
+mod tests;
 
 pub use call::{AssumeCall, Call, CallList};
+pub use reading::{cost, read_call};

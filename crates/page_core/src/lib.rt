@@ -4,6 +4,8 @@
 ghost use Rattle.page_core.specs.Laws.{PagesHoldBytes, BytesHoldPages, PutReadsBack, PutLeavesOthers};
 
 mod page;
+#[cfg(test)]
+mod tests;
 
 pub use page::Page;
 

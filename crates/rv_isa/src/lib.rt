@@ -3,6 +3,7 @@
 
 ghost use Rattle.rv_isa.specs.Rows.{RowsAreApart};
 
+mod arith;
 mod decoder;
 mod fault;
 mod instr;
@@ -10,6 +11,7 @@ mod regs;
 #[cfg(test)]
 mod tests;
 
+pub use arith::{alu, taken};
 pub use decoder::decode;
 pub use fault::Fault;
 pub use instr::{AluOp, BranchOp, Instr, LoadOp, StoreOp};

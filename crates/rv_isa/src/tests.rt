@@ -1,4 +1,4 @@
-use crate::{AluOp, BranchOp, Instr, LoadOp, Regs, StoreOp, decode};
+use crate::{AluOp, BranchOp, Instr, LoadOp, Regs, StoreOp, alu, decode, taken};
 
 #[test]
 fn words_of_the_manual_decode(rt: HostRuntime) {
@@ -72,4 +72,42 @@ fn a_word_in_x0_is_lost(rt: HostRuntime) {
     regs.set(0, 7);
     regs.set(31, 9);
     assert_eq!(rt; (regs.get(0), regs.get(31)), (0, 9));
+}
+
+#[test]
+fn division_by_zero_and_overflow(rt: HostRuntime) {
+    let table = [
+        (AluOp::Div, 7, 0, 0xFFFF_FFFF),
+        (AluOp::Divu, 7, 0, 0xFFFF_FFFF),
+        (AluOp::Rem, 7, 0, 7),
+        (AluOp::Remu, 7, 0, 7),
+        (AluOp::Div, 0x8000_0000, 0xFFFF_FFFF, 0x8000_0000),
+        (AluOp::Divu, 0x8000_0000, 0xFFFF_FFFF, 0),
+        (AluOp::Rem, 0x8000_0000, 0xFFFF_FFFF, 0),
+        (AluOp::Remu, 0x8000_0000, 0xFFFF_FFFF, 0x8000_0000),
+        (AluOp::Div, 0xFFFF_FFF9, 2, 0xFFFF_FFFD),
+        (AluOp::Rem, 0xFFFF_FFF9, 2, 0xFFFF_FFFF),
+        (AluOp::Sra, 0x8000_0000, 33, 0xC000_0000),
+        (AluOp::Mulh, 0xFFFF_FFFF, 0xFFFF_FFFF, 0),
+        (AluOp::Mulhsu, 0xFFFF_FFFF, 0xFFFF_FFFF, 0xFFFF_FFFF),
+        (AluOp::Mulhu, 0xFFFF_FFFF, 0xFFFF_FFFF, 0xFFFF_FFFE),
+    ];
+    for (op, a, b, value) in table {
+        assert_eq!(rt; alu(op, a, b), value, "{op:?} of {a:x} and {b:x}");
+    }
+}
+
+#[test]
+fn signed_and_unsigned_comparisons_differ(rt: HostRuntime) {
+    let table = [
+        (BranchOp::Beq, false),
+        (BranchOp::Bne, true),
+        (BranchOp::Blt, true),
+        (BranchOp::Bge, false),
+        (BranchOp::Bltu, false),
+        (BranchOp::Bgeu, true),
+    ];
+    for (op, is_taken) in table {
+        assert_eq!(rt; taken(op, 0xFFFF_FFFF, 1), is_taken, "{op:?}");
+    }
 }

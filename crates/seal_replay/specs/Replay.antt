@@ -2,8 +2,7 @@
 use Rattle.std.specs.Prelude.{ℕ, zero, suc, ◌+◌, ◌-◌, not, cond, eqb, List, [], ◌∷◌, length, find, Option, Some, None, option_and_then}
 use Rattle.rv_isa.specs.declared.fault.Fault.{Fault}
 use Rattle.page_core.specs.Memory.{top, bytes, number_of, contains}
-use Rattle.rv_step.specs.Machine.{State, Event, Went, Halted, Faulted, step_of, foot_of}
-use Rattle.rv_step.specs.Machine.{first_closed}
+use Rattle.rv_step.specs.Machine.{State, Event, Went, Halted, Faulted, step_of, foot_of, first_closed}
 use Rattle.rv_step.specs.Runs.{after, touched}
 use Rattle.page_core.specs.Memories.{flat}
 use Rattle.part_tree.specs.Part.{opened, fill}

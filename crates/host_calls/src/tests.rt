@@ -1,0 +1,82 @@
+use crate::{Call, cost, read_call};
+use rv_isa::{Fault, Regs};
+
+#[test]
+fn calls_are_read_up_to_their_limits(rt: HostRuntime) {
+    // x17, x10, x11, and the call or its fault.
+    let table = [
+        (0, 7, 1, Ok(Call::Halt { code: 7 })),
+        (
+            1,
+            0x0FFF_F800,
+            256,
+            Ok(Call::Read {
+                pointer: 0x0FFF_F800,
+                count: 256,
+            }),
+        ),
+        (1, 0x0FFF_F804, 256, Err(Fault::BadAddress(0x0FFF_F804))),
+        (
+            1,
+            0xFFFF_FFFC,
+            0,
+            Ok(Call::Read {
+                pointer: 0xFFFF_FFFC,
+                count: 0,
+            }),
+        ),
+        (1, 0x0FFF_FC00, 257, Err(Fault::BadArgs(1))),
+        (1, 2, 1, Err(Fault::BadArgs(1))),
+        (
+            2,
+            0x0FFF_FBFF,
+            1,
+            Ok(Call::Commit {
+                pointer: 0x0FFF_FBFF,
+                count: 1,
+            }),
+        ),
+        (2, 0x0FFF_FC00, 1, Err(Fault::BadAddress(0x0FFF_FC00))),
+        (2, 0xFFFF_FFFF, 1025, Err(Fault::BadArgs(2))),
+        (
+            3,
+            0x0FFF_FBE0,
+            0,
+            Ok(Call::Assume {
+                image: 0x0FFF_FBE0,
+                journal: 0,
+            }),
+        ),
+        (3, 0, 0x0FFF_FBE4, Err(Fault::BadAddress(0x0FFF_FBE4))),
+        (3, 0, 2, Err(Fault::BadArgs(3))),
+        (4, 0, 0, Err(Fault::BadCall(4))),
+    ];
+    for (number, a0, a1, call) in table {
+        let mut regs = Regs::new();
+        regs.set(17, number);
+        regs.set(10, a0);
+        regs.set(11, a1);
+        assert_eq!(rt; read_call(&regs), call, "{number} of {a0:x} and {a1:x}");
+    }
+}
+
+#[test]
+fn a_call_costs_its_words(rt: HostRuntime) {
+    let pointer = 0;
+    assert_eq!(rt; cost(&Call::Halt { code: 9 }), 1);
+    assert_eq!(rt;
+        cost(&Call::Read {
+            pointer,
+            count: 256
+        }),
+        257
+    );
+    assert_eq!(rt; cost(&Call::Commit { pointer, count: 5 }), 3);
+    assert_eq!(rt;
+        cost(&Call::Assume {
+            image: 0,
+            journal: 4
+        }),
+        17
+    );
+}
