@@ -9,7 +9,7 @@ use Rattle.seal_replay.specs.Claiming.{before_of}
 use Rattle.seal_replay.specs.Replaying.{HaltsPlainly}
 use Rattle.zk_check.specs.declared.status.Status.{Status}
 use Rattle.zk_check.specs.declared.status.Status.TheVariants.{Done, Refused}
-use Rattle.zk_check.specs.Lines.{valid_lines, image_lines}
+use Rattle.zk_check.specs.Lines.{valid_lines, image_lines, step_lines}
 use Rattle.zk_check.specs.OneSeal.{SpellsOne}
 use Rattle.zk_check.specs.Answers.{Judged}
 use Rattle.zk_check.specs.Reported.{plain_report}
@@ -23,6 +23,10 @@ module _ (H : List ℕ → List ℕ) (id bytes : List ℕ) (seal : Seal) (spelle
   pub judged_other : (status : Status) (lines : List ℕ) → found ≢ id → status ≡ Refused → lines ≡ image_lines found → Judged H id bytes status lines
   judged_other status lines other refused text =
       inr (refused, inr (inl (found, record { seal = seal; spelled = spelled; is_found = here; other = other }, text)))
+
+  pub judged_step : (step : ℕ) (status : Status) (lines : List ℕ) → found ≡ id → status ≡ Refused → lines ≡ step_lines step → Judged H id bytes status lines
+  judged_step step status lines same refused text =
+      inr (refused, inr (inr (step, record { seal = seal; spelled = spelled; same = sym here ∙ same }, text)))
 
   pub judged_valid : (code : ℕ) (status : Status) (lines : List ℕ) → found ≡ id → HaltsPlainly seal code → status ≡ Done
       → lines ≡ valid_lines (plain_report H before seal.steps code) → Judged H id bytes status lines

@@ -54,12 +54,18 @@ pub record IsOther (H : List ℕ → List ℕ) (id bytes found : List ℕ) : Typ
   pub is_found : found ≡ state_digest H (before_of H seal)
   pub other : found ≢ id
 
--- by form, by image, or by step, with the line of each
+-- one is, and the digest of its first state is the id
+pub record IsSame (H : List ℕ → List ℕ) (id bytes : List ℕ) : Type 0 where
+  pub seal : Seal
+  pub spelled : SpellsOne seal bytes
+  pub same : state_digest H (before_of H seal) ≡ id
+
+-- by form, by image, or by step, with the line of each; the causes exclude one another
 abbrev pub Refuses : (List ℕ → List ℕ) → List ℕ → List ℕ → List ℕ → Type 0
 Refuses H id bytes lines =
     (IsNotOne bytes × (lines ≡ form_lines))
     ⊎ ((found : List ℕ) × IsOther H id bytes found × (lines ≡ image_lines found))
-    ⊎ ((step : ℕ) × (lines ≡ step_lines step))
+    ⊎ ((step : ℕ) × IsSame H id bytes × (lines ≡ step_lines step))
 
 -- ---- the table of answers, a row a cause, in their order
 -- the receipt's bytes were read

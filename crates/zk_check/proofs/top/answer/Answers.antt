@@ -1,0 +1,15 @@
+use Rattle.std.proofs.Common.{◌≡◌, ℕ, List, map, subst}
+use Rattle.std.proofs.lemmas.Result.{IfOk-weaker, IfOk-at_ok}
+use Rattle.std.specs.Prelude.{string_bytes}
+use Rattle.zk_check.specs.Answers.{Judged}
+use Rattle.zk_check.proofs.Answered.{answers_judged}
+use Rattle.zk_check.proofs.top.answer.Goals as goal
+
+pub returns-in-Ok-clause-answer : goal.returns-in-Ok-clause-answer
+returns-in-Ok-clause-answer g c =
+    let H : List ℕ → List ℕ = g.D.Digester.digest_of in
+    let read : c.as_slice.result.now ≡ c.in-Ok.bytes.items = c.as_slice.ensures in
+    IfOk-weaker c.or_memory-in-Ok.result _ _
+    (λ printed made. answers_judged H (record { receipt = c.in-Some.job.receipt.now; id = c.in-Some.job.id }) c.in-Ok.bytes.items printed.status (string_bytes printed.text)
+    (subst (λ (bytes : List ℕ). Judged H c.in-Some.job.id bytes printed.status (string_bytes printed.text)) read (IfOk-at_ok _ made c.judge.ensures))
+    (map string_bytes c.args.words.now) (g.K.Desk.contents c.args.desk.now) c.in-Some.ensures.some c.in-Ok.ensures.told c.in-Ok.ensures.within) c.or_memory-in-Ok.ensures.ok
