@@ -95,8 +95,8 @@ impl<T: Drop> ItemList<T> {
 }
 
 impl<T: Copy> ItemList<T> {
-    // Appends a copy of each item, or nothing.
-    pub(crate) fn extend(&mut self, more: &[T]) -> Result<(), AllocError>
+    /// Appends a copy of each item, or nothing.
+    pub fn extend(&mut self, more: &[T]) -> Result<(), AllocError>
         ensures ok { OnOk result (self.new.items ≡ self.old.items ++ more.now) }
         ensures spare { OnOk result (self.new.spare ≡ self.old.spare - length more.now) }
         ensures err { OnErr result (self.new ≡ self.old) }

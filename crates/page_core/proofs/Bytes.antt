@@ -65,7 +65,7 @@ bytes-of m a (b ∷ bs) h =
     ap₂ ◌∷◌ (ap m (omega arith) ∙ h 0 (omega arith))
     (bytes-of m (a + 1) bs (λ k l. ap m (omega arith) ∙ h (suc k) (omega arith)))
 
-put-inside : (m : ℕ → ℕ) (a : ℕ) (bs : List ℕ) (k : ℕ) → k < length bs → put m a bs (a + k) ≡ get_or bs k 0
+pub put-inside : (m : ℕ → ℕ) (a : ℕ) (bs : List ℕ) (k : ℕ) → k < length bs → put m a bs (a + k) ≡ get_or bs k 0
 unfolding put
 put-inside m a bs k h =
     let at : a + k - a ≡ k = omega arith in

@@ -3,3 +3,4 @@ pub mod Arithmetic
 pub mod Registers
 pub mod Rows
 pub mod Classes
+pub mod Encoding

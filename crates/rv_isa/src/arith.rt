@@ -27,15 +27,16 @@ fn high_mixed(a: u32, b: u32) -> u32
 pub fn alu(op: AluOp, a: u32, b: u32) -> u32
     ensures { result ≡ alu_of op a b }
 {
+    let (signed_a, signed_b) = (a.cast_signed(), b.cast_signed());
     match op {
         AluOp::Add => a.wrapping_add(b),
         AluOp::Sub => a.wrapping_sub(b),
         AluOp::Sll => a.wrapping_shl(b),
-        AluOp::Slt => u32::from(a.cast_signed() < b.cast_signed()),
+        AluOp::Slt => u32::from(signed_a < signed_b),
         AluOp::Sltu => u32::from(a < b),
         AluOp::Xor => a ^ b,
         AluOp::Srl => a.wrapping_shr(b),
-        AluOp::Sra => (a.cast_signed() >> (b % 32)).cast_unsigned(),
+        AluOp::Sra => (signed_a >> (b % 32)).cast_unsigned(),
         AluOp::Or => a | b,
         AluOp::And => a & b,
         AluOp::Mul => a.wrapping_mul(b),
@@ -45,17 +46,13 @@ pub fn alu(op: AluOp, a: u32, b: u32) -> u32
         AluOp::Div => if b == 0 {
             u32::MAX
         } else {
-            a.cast_signed()
-                .wrapping_div(b.cast_signed())
-                .cast_unsigned()
+            signed_a.wrapping_div(signed_b).cast_unsigned()
         },
         AluOp::Divu => if b == 0 { u32::MAX } else { a / b },
         AluOp::Rem => if b == 0 {
             a
         } else {
-            a.cast_signed()
-                .wrapping_rem(b.cast_signed())
-                .cast_unsigned()
+            signed_a.wrapping_rem(signed_b).cast_unsigned()
         },
         AluOp::Remu => if b == 0 { a } else { a % b },
     }

@@ -1,83 +1,14 @@
-ghost use Rattle.std.specs.Prelude.{◌≡◌, ◌^◌, ◌<◌, ◌≤◌, ◌*◌, ◌+◌, ◌-◌, ◌/◌, ◌%◌, IfSome};
-ghost use Rattle.rv_isa.specs.Words.{twos_complement};
-ghost use Rattle.rv_isa.specs.Rows.{decode_of, bits, opcode, rd, rs1, rs2, funct3, funct7, imm_i, imm_s, imm_b, imm_u, imm_j};
+//! The instructions of words, one function an opcode.
+ghost use Rattle.std.specs.Prelude.{◌≡◌, IfSome, IsTrue};
+ghost use Rattle.rv_isa.specs.Rows.{decode_of, opcode};
 ghost use Rattle.rv_isa.specs.Registers.{HasRegisters};
+ghost use Rattle.rv_isa.specs.Encoding.{valid};
 ghost use Rattle.rv_isa.specs.Classes.{branch_op_of, load_op_of, store_op_of, immediate_op_of, shift_op_of, register_op_of};
 
+use crate::fields::{
+    field, immediate_b, immediate_i, immediate_j, immediate_s, immediate_u, register,
+};
 use crate::instr::{AluOp, BranchOp, Instr, LoadOp, StoreOp};
-
-// `count` bits of a word, from bit `low` on.
-fn field(word: u32, low: u32, count: u32) -> u32
-    requires low_in { low < 32 }
-    requires count_in { count < 32 }
-    ensures value { result ≡ bits low count word }
-    ensures bound { result < 2 ^ count }
-{
-    (word >> low) % (1 << count)
-}
-
-// A number below twice `half`, in two's complement.
-fn extended(value: u32, half: u32) -> i32
-    requires half_in { half < 2 ^ 30 }
-    requires value_in { value < 2 * half }
-    ensures { result ≡ twos_complement half value }
-{
-    if value < half {
-        value as i32
-    } else {
-        value as i32 - (2 * half) as i32
-    }
-}
-
-fn register(word: u32, low: u32) -> u8
-    requires { low < 32 }
-    ensures value { result ≡ bits low 5 word }
-    ensures bound { result < 32 }
-{
-    field(word, low, 5) as u8
-}
-
-fn immediate_i(word: u32) -> i32
-    ensures { result ≡ imm_i word }
-{
-    extended(field(word, 20, 12), 1 << 11)
-}
-
-fn immediate_s(word: u32) -> i32
-    ensures { result ≡ imm_s word }
-{
-    extended(field(word, 25, 7) * 32 + field(word, 7, 5), 1 << 11)
-}
-
-fn immediate_b(word: u32) -> i32
-    ensures { result ≡ imm_b word }
-{
-    extended(
-        field(word, 31, 1) * 4096
-            + field(word, 7, 1) * 2048
-            + field(word, 25, 6) * 32
-            + field(word, 8, 4) * 2,
-        1 << 12,
-    )
-}
-
-fn immediate_u(word: u32) -> u32
-    ensures { result ≡ imm_u word }
-{
-    field(word, 12, 20) * 4096
-}
-
-fn immediate_j(word: u32) -> i32
-    ensures { result ≡ imm_j word }
-{
-    extended(
-        field(word, 31, 1) * 1_048_576
-            + field(word, 12, 8) * 4096
-            + field(word, 20, 1) * 2048
-            + field(word, 21, 10) * 2,
-        1 << 20,
-    )
-}
 
 fn branch_op(funct3: u32) -> Option<BranchOp>
     ensures { result ≡ branch_op_of funct3 }
@@ -98,6 +29,7 @@ fn branch(word: u32) -> Option<Instr>
     requires { opcode word ≡ 0b1100011 }
     ensures meaning { result ≡ decode_of word }
     ensures registers { IfSome result HasRegisters }
+    ensures valid { IfSome result (λ instr. IsTrue (valid instr)) }
 {
     let op = branch_op(field(word, 12, 3))?;
     Some(Instr::Branch {
@@ -113,6 +45,7 @@ fn jump_to_register(word: u32) -> Option<Instr>
     requires { opcode word ≡ 0b1100111 }
     ensures meaning { result ≡ decode_of word }
     ensures registers { IfSome result HasRegisters }
+    ensures valid { IfSome result (λ instr. IsTrue (valid instr)) }
 {
     if field(word, 12, 3) == 0 {
         Some(Instr::Jalr {
@@ -143,6 +76,7 @@ fn load(word: u32) -> Option<Instr>
     requires { opcode word ≡ 0b0000011 }
     ensures meaning { result ≡ decode_of word }
     ensures registers { IfSome result HasRegisters }
+    ensures valid { IfSome result (λ instr. IsTrue (valid instr)) }
 {
     let op = load_op(field(word, 12, 3))?;
     Some(Instr::Load {
@@ -169,6 +103,7 @@ fn store(word: u32) -> Option<Instr>
     requires { opcode word ≡ 0b0100011 }
     ensures meaning { result ≡ decode_of word }
     ensures registers { IfSome result HasRegisters }
+    ensures valid { IfSome result (λ instr. IsTrue (valid instr)) }
 {
     let op = store_op(field(word, 12, 3))?;
     Some(Instr::Store {
@@ -209,6 +144,7 @@ fn with_immediate(word: u32) -> Option<Instr>
     requires { opcode word ≡ 0b0010011 }
     ensures meaning { result ≡ decode_of word }
     ensures registers { IfSome result HasRegisters }
+    ensures valid { IfSome result (λ instr. IsTrue (valid instr)) }
 {
     let funct3 = field(word, 12, 3);
     let rd = register(word, 7);
@@ -261,6 +197,7 @@ fn with_registers(word: u32) -> Option<Instr>
     requires { opcode word ≡ 0b0110011 }
     ensures meaning { result ≡ decode_of word }
     ensures registers { IfSome result HasRegisters }
+    ensures valid { IfSome result (λ instr. IsTrue (valid instr)) }
 {
     let op = register_op(field(word, 12, 3), field(word, 25, 7))?;
     Some(Instr::Alu {
@@ -276,6 +213,7 @@ fn fence(word: u32) -> Option<Instr>
     requires { opcode word ≡ 0b0001111 }
     ensures meaning { result ≡ decode_of word }
     ensures registers { IfSome result HasRegisters }
+    ensures valid { IfSome result (λ instr. IsTrue (valid instr)) }
 {
     if field(word, 12, 3) == 0 {
         Some(Instr::Fence)
@@ -289,6 +227,7 @@ fn system(word: u32) -> Option<Instr>
     requires { opcode word ≡ 0b1110011 }
     ensures meaning { result ≡ decode_of word }
     ensures registers { IfSome result HasRegisters }
+    ensures valid { IfSome result (λ instr. IsTrue (valid instr)) }
 {
     match word {
         0x0000_0073 => Some(Instr::Ecall),
@@ -302,6 +241,7 @@ fn system(word: u32) -> Option<Instr>
 pub fn decode(word: u32) -> Option<Instr>
     ensures meaning { result ≡ decode_of word }
     ensures registers { IfSome result HasRegisters }
+    ensures valid { IfSome result (λ instr. IsTrue (valid instr)) }
 {
     match field(word, 0, 7) {
         0b011_0111 => Some(Instr::Lui {
