@@ -2,10 +2,8 @@ ghost use Rattle.std.specs.Prelude.{◌≡◌, ◌≤◌};
 ghost use Rattle.host_calls.specs.Calls.{read_call_of, cost_of, takes};
 
 use crate::call::Call;
+use page_core::TOP;
 use rv_isa::{Fault, Regs};
-
-// The address of the register page, at and above which a guest reaches nothing.
-const TOP: u32 = 0x0FFF_FC00;
 
 /// The host call that the registers name: its number in x17, its arguments in x10 and x11.
 ///

@@ -1,4 +1,4 @@
-use crate::{Call, cost, read_call};
+use crate::{Call, Foot, cost, read_call};
 use rv_isa::{Fault, Regs};
 
 #[test]
@@ -79,4 +79,25 @@ fn a_call_costs_its_words(rt: HostRuntime) {
         }),
         17
     );
+}
+
+#[test]
+fn a_footprint_has_its_data_pages_ascending_and_once(rt: HostRuntime) {
+    // A page added in turn, and the footprint after it.
+    let table = [
+        (9, [262_143, 4, 9].as_slice()),
+        (3, [262_143, 4, 3, 9].as_slice()),
+        (4, [262_143, 4, 3, 9].as_slice()),
+        (9, [262_143, 4, 3, 9].as_slice()),
+        (262_142, [262_143, 4, 3, 9, 262_142].as_slice()),
+        (8, [262_143, 4, 3, 8, 9, 262_142].as_slice()),
+    ];
+    let mut foot = Foot::of_code(4);
+    assert_eq!(rt; foot.pages(), [262_143, 4].as_slice());
+    for (page, pages) in table {
+        assert!(rt; foot.pages().len() >= 2 && foot.pages().len() < 6);
+        foot.add(page);
+        assert_eq!(rt; foot.pages(), pages, "with {page}");
+    }
+    assert_eq!(rt; Foot::of_registers().pages(), [262_143].as_slice());
 }
