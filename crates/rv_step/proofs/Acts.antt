@@ -1,5 +1,6 @@
--- What every act of a decoded word keeps: its data lie below the register page, and where it goes is a multiple of 4.
-use Rattle.std.proofs.Common.{◌≡◌, ℕ, ◌%◌, ◌<◌, Bool, true, false, cond, leb, ltb, eqb, List, [], ◌∷◌, length, get_or, refl, arith, IsTrue, Option, Some, None, Result, Ok, Err}
+-- The act of every state is sound, by cases on the instruction.
+use Rattle.std.proofs.Common.{◌≡◌, ℕ, zero, suc, ◌+◌, ◌-◌, ◌*◌, ◌/◌, ◌%◌, ◌^◌, ◌<◌, ◌≤◌, Bool, ◌&&◌, leb, ltb, eqb, List, [], ◌∷◌, ◌++◌, length, get_or, refl, ap, arith, IsTrue, Option, Some, None, Result, length-append}
+use Rattle.std.proofs.lemmas.Bool.{cond_both}
 use Rattle.std.proofs.lemmas.Bool.Decides.{nat_tests}
 use Rattle.rv_isa.specs.declared.instr.LoadOp.{LoadOp}
 use Rattle.rv_isa.specs.declared.instr.LoadOp.TheVariants.{Lb, Lh, Lw, Lbu, Lhu}
@@ -10,133 +11,215 @@ use Rattle.rv_isa.specs.declared.instr.Instr.TheVariants.{Lui, Auipc, Jal, Jalr,
 use Rattle.rv_isa.specs.declared.fault.Fault.{Fault}
 use Rattle.rv_isa.specs.declared.fault.Fault.TheVariants.{Illegal, Break}
 use Rattle.host_calls.specs.declared.call.Call.{Call}
+use Rattle.host_calls.specs.declared.call.Call.TheVariants.{Halt, Read, Commit, Assume}
 use Rattle.rv_isa.specs.Words.{plus}
 use Rattle.rv_isa.specs.Arithmetic.{taken_of}
-use Rattle.page_core.specs.Memory.{top, bytes, number_of}
+use Rattle.page_core.specs.Memory.{top, bytes, number_of, pages_from, pages_of}
 use Rattle.rv_isa.specs.Rows.{decode_of}
 use Rattle.host_calls.specs.Calls.{fits_below, within, checked, read_call_of, ranges_of, takes}
 use Rattle.rv_step.specs.declared.act.Act.TheVariants.{Sets, Loads, Stores, Does, Faults}
 use Rattle.rv_step.specs.declared.act.Act.{Act}
-use Rattle.rv_step.specs.Machine.{State, load_width, store_width, at_address, jump, call_act, act_of, act_of_word, supplied, act, data_of}
+use Rattle.rv_step.specs.Machine.{load_width, store_width, at_address, jump, call_act, act_of, act_of_word, supplied, act, pages_of_all}
 use Rattle.rv_isa.specs.Registers.{register}
+use Rattle.rv_step.specs.Acts.{AllBelow, IsSound, ActsAreSound}
 
--- each range ends at the register page or below
-abbrev pub AllBelow : List (ℕ × ℕ) → Type 0
-AllBelow [] = Unit {0}
-AllBelow (r ∷ rs) = IsTrue (fits_below r.0 r.1) × AllBelow rs
+-- ---- the pages of data
+length-pages_from : (p n : ℕ) → length (pages_from p n) ≡ n
+unfolding pages_from
+length-pages_from p zero = refl
+length-pages_from p (suc n) = ap suc (length-pages_from (p + 1) n)
 
--- where an act goes on, a multiple of 4
-abbrev pub GoesAligned : Act → Type 0
-GoesAligned (Sets pc rd v) = pc % 4 ≡ 0
-GoesAligned (Loads op rd a) = Unit {0}
-GoesAligned (Stores op a v) = Unit {0}
-GoesAligned (Does call) = Unit {0}
-GoesAligned (Faults fault) = Unit {0}
+-- 1,024 bytes lie in two pages
+few_pages : (a n : ℕ) → n ≤ 1024 → length (pages_of a n) ≤ 2
+few_pages a zero h = omega arith
+few_pages a (suc n) h =
+    let two : (a + n) / 1024 + 1 - a / 1024 ≤ 2 = omega arith in omega (arith, length-pages_from (a / 1024) ((a + n) / 1024 + 1 - a / 1024))
 
-pub record IsSound (a : Act) : Type 0 where
-  pub below : AllBelow (data_of a)
-  pub goes : GoesAligned a
+no_data : length (pages_of_all []) ≤ 4
+unfolding pages_of_all
+no_data = omega arith
 
--- a fact at both values of a choice
-pub at_cond : {A : Type 0} (P : A → Type 0) (b : Bool) (x y : A) → (b ≡ true → P x) → (b ≡ false → P y) → P (cond b x y)
-at_cond P true x y f g = f refl
-at_cond P false x y f g = g refl
+one_range : (a n : ℕ) → n ≤ 1024 → length (pages_of_all ((a, n) ∷ [])) ≤ 4
+unfolding pages_of_all
+one_range a n h = omega (arith, few_pages a n h, length-append (pages_of a n) [])
 
-sound_fault : (f : Fault) → IsSound (Faults f)
-sound_fault f = record { below = tt; goes = tt }
+two_ranges : (a n b k : ℕ) → n ≤ 1024 → k ≤ 1024 → length (pages_of_all ((a, n) ∷ (b, k) ∷ [])) ≤ 4
+unfolding pages_of_all
+two_ranges a n b k h i =
+    omega (arith, few_pages a n h, few_pages b k i, length-append (pages_of a n) (pages_of b k ++ []), length-append (pages_of b k) [])
 
-sound_jump : (target rd v : ℕ) → IsSound (jump target rd v)
-sound_jump target rd v =
-    at_cond IsSound (eqb (target % 4) 0) _ _ (λ e. record { below = tt; goes = grind (arith, nat_tests) }) (λ e. sound_fault _)
+-- ---- the width of a load or a store
+record IsWidth (n : ℕ) : Type 0 where
+  few : n ≤ 1024
+  fits : (a : ℕ) → a % n ≡ 0 → a < top → IsTrue (fits_below a n)
 
-sound_at : (width a : ℕ) (b : Act) → (a % width ≡ 0 → a < top → IsSound b) → IsSound (at_address width a b)
-sound_at width a b f =
-    at_cond IsSound (eqb (a % width) 0) _ _
-    (λ e. at_cond IsSound (ltb a top) _ _ (λ l. f (grind (arith, nat_tests)) (grind (arith, nat_tests))) (λ l. sound_fault _))
-    (λ e. sound_fault _)
+width_1 : IsWidth 1
+width_1 = record { few = omega arith; fits = λ a h l. grind (arith, nat_tests) }
 
-fits_load : (op : LoadOp) (a : ℕ) → a % load_width op ≡ 0 → a < top → IsTrue (fits_below a (load_width op))
-fits_load Lb a h l = grind (arith, nat_tests)
-fits_load Lh a h l = grind (arith, nat_tests)
-fits_load Lw a h l = grind (arith, nat_tests)
-fits_load Lbu a h l = grind (arith, nat_tests)
-fits_load Lhu a h l = grind (arith, nat_tests)
+width_2 : IsWidth 2
+width_2 = record { few = omega arith; fits = λ a h l. grind (arith, nat_tests) }
 
-fits_store : (op : StoreOp) (a : ℕ) → a % store_width op ≡ 0 → a < top → IsTrue (fits_below a (store_width op))
-fits_store Sb a h l = grind (arith, nat_tests)
-fits_store Sh a h l = grind (arith, nat_tests)
-fits_store Sw a h l = grind (arith, nat_tests)
+width_4 : IsWidth 4
+width_4 = record { few = omega arith; fits = λ a h l. grind (arith, nat_tests) }
 
--- ---- the host calls
-abbrev CallBelow : Result Call Fault → Type 0
-CallBelow (Ok call) = AllBelow (ranges_of call)
-CallBelow (Err fault) = Unit {0}
+width_of_load : (op : LoadOp) → IsWidth (load_width op)
+width_of_load Lb = width_1
+width_of_load Lh = width_2
+width_of_load Lw = width_4
+width_of_load Lbu = width_1
+width_of_load Lhu = width_2
 
-record CallFits (r : Result Call Fault) : Type 0 where
-  below : CallBelow r
+width_of_store : (op : StoreOp) → IsWidth (store_width op)
+width_of_store Sb = width_1
+width_of_store Sh = width_2
+width_of_store Sw = width_4
 
-call_fault : (f : Fault) → CallFits (Err f)
-call_fault f = record { below = tt }
+-- ---- the kinds of act
+module _ (x : List ℕ) where
+  sound_fault : (f : Fault) → IsSound x (Faults f)
+  sound_fault f = record { below = tt; aligned = tt; goes = tt; exit = λ h. tt; limits = tt; cost = omega arith; pages = no_data }
 
-within_below : (rs : List (ℕ × ℕ)) (call : Call) (done : AllBelow rs → AllBelow (ranges_of call)) → CallFits (within rs call)
-unfolding within
-within_below [] call done = record { below = done tt }
-within_below (r ∷ rs) call done =
-    at_cond CallFits (fits_below r.0 r.1) _ _ (λ e. within_below rs call (λ h. done (e, h))) (λ e. call_fault _)
+  sound_sets : (pc rd v : ℕ) → pc % 4 ≡ 0 → pc < 2 ^ 32 → IsSound x (Sets pc rd v)
+  sound_sets pc rd v aligned word = record { below = tt; aligned = tt; goes = (aligned, word); exit = λ h. tt; limits = tt; cost = omega arith; pages = no_data }
 
-checked_below : (number : ℕ) (good : Bool) (call : Call) → CallFits (checked number good call)
-unfolding checked
-checked_below number true call = within_below (ranges_of call) call (λ h. h)
-checked_below number false call = call_fault _
+  sound_next : (pc rd v : ℕ) → pc % 4 ≡ 0 → pc < top → IsSound x (Sets (pc + 4) rd v)
+  sound_next pc rd v aligned l = sound_sets (pc + 4) rd v (omega arith) (omega arith)
 
-call_below : (x : List ℕ) → CallFits (read_call_of x)
-unfolding read_call_of
-call_below x =
-    at_cond CallFits (eqb number 0) _ _ (λ e. record { below = tt })
-    (λ e. at_cond CallFits (eqb number 1) _ _ (λ e. checked_below 1 _ _)
-    (λ e. at_cond CallFits (eqb number 2) _ _ (λ e. checked_below 2 _ _)
-    (λ e. at_cond CallFits (eqb number 3) _ _ (λ e. checked_below 3 _ _) (λ e. call_fault _))))
-  where
-    number : ℕ
-    number = get_or x 17 0
+  sound_jump : (target rd v : ℕ) → target < 2 ^ 32 → IsSound x (jump target rd v)
+  sound_jump target rd v word =
+      cond_both (eqb (target % 4) 0) _ _ (IsSound x) (λ e. sound_sets target rd v (grind (arith, nat_tests)) word) (λ e. sound_fault _)
 
-sound_call : (r : Result Call Fault) → CallFits r → IsSound (call_act r)
-sound_call (Ok call) h = record { below = h.below; goes = tt }
-sound_call (Err fault) h = sound_fault fault
+  sound_at : (width a : ℕ) (b : Act) → IsWidth width → (a % width ≡ 0 → IsTrue (fits_below a width) → IsSound x b) → IsSound x (at_address width a b)
+  sound_at width a b h f =
+      cond_both (eqb (a % width) 0) _ _ (IsSound x)
+      (λ e. cond_both (ltb a top) _ _ (IsSound x) (λ l. f (grind (arith, nat_tests)) (h.fits a (grind (arith, nat_tests)) (grind (arith, nat_tests)))) (λ l. sound_fault _))
+      (λ e. sound_fault _)
+
+  sound_load : (op : LoadOp) (rd a : ℕ) → IsSound x (at_address (load_width op) a (Loads op rd a))
+  sound_load op rd a =
+      sound_at (load_width op) a (Loads op rd a) (width_of_load op)
+      (λ aligned fits. record {
+        below = (fits, tt);
+        aligned = aligned;
+        goes = tt;
+        exit = λ h. tt;
+        limits = tt;
+        cost = omega arith;
+        pages = one_range a (load_width op) (width_of_load op).few;
+      })
+
+  sound_store : (op : StoreOp) (a v : ℕ) → IsSound x (at_address (store_width op) a (Stores op a v))
+  sound_store op a v =
+      sound_at (store_width op) a (Stores op a v) (width_of_store op)
+      (λ aligned fits. record {
+        below = (fits, tt);
+        aligned = aligned;
+        goes = tt;
+        exit = λ h. tt;
+        limits = tt;
+        cost = omega arith;
+        pages = one_range a (store_width op) (width_of_store op).few;
+      })
+
+  -- ---- the host calls
+  sound_halt : (code : ℕ) → code ≡ register x 10 → IsSound x (Does (Halt code))
+  sound_halt code e = record { below = tt; aligned = tt; goes = tt; exit = λ h. omega (arith, e); limits = tt; cost = omega arith; pages = no_data }
+
+  sound_read : (pointer count : ℕ) → pointer % 4 ≡ 0 → count ≤ 256 → AllBelow (ranges_of (Read pointer count)) → IsSound x (Does (Read pointer count))
+  sound_read pointer count aligned h below = record {
+    below = below;
+    aligned = aligned;
+    goes = tt;
+    exit = λ h. tt;
+    limits = h;
+    cost = omega arith;
+    pages = one_range pointer (4 * count) (omega arith);
+  }
+
+  sound_commit : (pointer count : ℕ) → count ≤ 1024 → AllBelow (ranges_of (Commit pointer count)) → IsSound x (Does (Commit pointer count))
+  sound_commit pointer count h below = record {
+    below = below;
+    aligned = tt;
+    goes = tt;
+    exit = λ h. tt;
+    limits = h;
+    cost = omega arith;
+    pages = one_range pointer count h;
+  }
+
+  sound_assume : (image journal : ℕ) → image % 4 ≡ 0 → journal % 4 ≡ 0 → AllBelow (ranges_of (Assume image journal)) → IsSound x (Does (Assume image journal))
+  sound_assume image journal first second below = record {
+    below = below;
+    aligned = (first, second);
+    goes = tt;
+    exit = λ h. tt;
+    limits = tt;
+    cost = omega arith;
+    pages = two_ranges image 32 journal 32 (omega arith) (omega arith);
+  }
+
+  abbrev IsSoundCall : Result Call Fault → Type 0
+  IsSoundCall r = IsSound x (call_act r)
+
+  sound_within : (rs : List (ℕ × ℕ)) (call : Call) → (AllBelow rs → IsSound x (Does call)) → IsSound x (call_act (within rs call))
+  unfolding within
+  sound_within [] call f = f tt
+  sound_within (r ∷ rs) call f =
+      cond_both (fits_below r.0 r.1) _ _ IsSoundCall (λ e. sound_within rs call (λ h. f (e, h))) (λ e. sound_fault _)
+
+  sound_checked : (number : ℕ) (good : Bool) (call : Call) → (IsTrue good → AllBelow (ranges_of call) → IsSound x (Does call))
+      → IsSound x (call_act (checked number good call))
+  unfolding checked
+  sound_checked number good call f = cond_both good _ _ IsSoundCall (λ e. sound_within (ranges_of call) call (f e)) (λ e. sound_fault _)
+
+  sound_call : IsSound x (call_act (read_call_of x))
+  unfolding read_call_of
+  sound_call =
+      cond_both (eqb number 0) _ _ IsSoundCall (λ e. sound_halt a0 refl)
+      (λ e. cond_both (eqb number 1) _ _ IsSoundCall
+      (λ e. sound_checked 1 (eqb (a0 % 4) 0 && leb a1 256) (Read a0 a1) (λ good. sound_read a0 a1 (grind (arith, nat_tests)) (grind (arith, nat_tests))))
+      (λ e. cond_both (eqb number 2) _ _ IsSoundCall
+      (λ e. sound_checked 2 (leb a1 1024) (Commit a0 a1) (λ good. sound_commit a0 a1 (grind (arith, nat_tests))))
+      (λ e. cond_both (eqb number 3) _ _ IsSoundCall
+      (λ e. sound_checked 3 (eqb (a0 % 4) 0 && eqb (a1 % 4) 0) (Assume a0 a1) (λ good. sound_assume a0 a1 (grind (arith, nat_tests)) (grind (arith, nat_tests)))) (λ e. sound_fault _))))
+    where
+      number : ℕ
+      number = get_or x 17 0
+
+      a0 : ℕ
+      a0 = get_or x 10 0
+
+      a1 : ℕ
+      a1 = get_or x 11 0
 
 -- ---- the rows
-pub sound_act_of : (i : Instr) (pc : ℕ) (x : List ℕ) → pc % 4 ≡ 0 → IsSound (act_of i pc x)
+sound_act_of : (i : Instr) (pc : ℕ) (x : List ℕ) → pc % 4 ≡ 0 → pc < top → IsSound x (act_of i pc x)
 unfolding act_of
-sound_act_of (Lui rd imm) pc x h = record { below = tt; goes = omega arith }
-sound_act_of (Auipc rd imm) pc x h = record { below = tt; goes = omega arith }
-sound_act_of (Jal rd offset) pc x h = sound_jump _ _ _
-sound_act_of (Jalr rd rs1 imm) pc x h = sound_jump _ _ _
-sound_act_of (Branch op rs1 rs2 offset) pc x h =
-    at_cond IsSound (taken_of op (register x rs1) (register x rs2)) _ _ (λ e. sound_jump _ _ _) (λ e. record { below = tt; goes = omega arith })
-sound_act_of (Load op rd rs1 imm) pc x h =
-    sound_at (load_width op) _ (Loads op rd (plus (register x rs1) imm)) (λ e l. record { below = (fits_load op _ e l, tt); goes = tt })
-sound_act_of (Store op rs1 rs2 imm) pc x h =
-    sound_at (store_width op) _ (Stores op (plus (register x rs1) imm) (register x rs2)) (λ e l. record { below = (fits_store op _ e l, tt); goes = tt })
-sound_act_of (AluImm op rd rs1 imm) pc x h = record { below = tt; goes = omega arith }
-sound_act_of (Alu op rd rs1 rs2) pc x h = record { below = tt; goes = omega arith }
-sound_act_of Fence pc x h = record { below = tt; goes = omega arith }
-sound_act_of Ecall pc x h = sound_call (read_call_of x) (call_below x)
-sound_act_of Ebreak pc x h = sound_fault Break
+sound_act_of (Lui rd imm) pc x h l = sound_next x pc _ _ h l
+sound_act_of (Auipc rd imm) pc x h l = sound_next x pc _ _ h l
+sound_act_of (Jal rd offset) pc x h l = sound_jump x _ _ _ (omega arith)
+sound_act_of (Jalr rd rs1 imm) pc x h l = sound_jump x _ _ _ (omega arith)
+sound_act_of (Branch op rs1 rs2 offset) pc x h l =
+    cond_both (taken_of op (register x rs1) (register x rs2)) _ _ (IsSound x) (λ e. sound_jump x _ _ _ (omega arith)) (λ e. sound_next x pc _ _ h l)
+sound_act_of (Load op rd rs1 imm) pc x h l = sound_load x op rd (plus (register x rs1) imm)
+sound_act_of (Store op rs1 rs2 imm) pc x h l = sound_store x op (plus (register x rs1) imm) (register x rs2)
+sound_act_of (AluImm op rd rs1 imm) pc x h l = sound_next x pc _ _ h l
+sound_act_of (Alu op rd rs1 rs2) pc x h l = sound_next x pc _ _ h l
+sound_act_of Fence pc x h l = sound_next x pc _ _ h l
+sound_act_of Ecall pc x h l = sound_call x
+sound_act_of Ebreak pc x h l = sound_fault x Break
 
-sound_decoded : (o : Option Instr) (word pc : ℕ) (x : List ℕ) → pc % 4 ≡ 0
-    → IsSound (elim o [ Some instr ↦ act_of instr pc x | None ↦ Faults (Illegal word) ])
-sound_decoded (Some i) word pc x h = sound_act_of i pc x h
-sound_decoded None word pc x h = sound_fault _
+sound_decoded : (o : Option Instr) (word pc : ℕ) (x : List ℕ) → pc % 4 ≡ 0 → pc < top
+    → IsSound x (elim o [ Some instr ↦ act_of instr pc x | None ↦ Faults (Illegal word) ])
+sound_decoded (Some i) word pc x h l = sound_act_of i pc x h l
+sound_decoded None word pc x h l = sound_fault x _
 
-pub sound_supplied : (left : ℕ) (a : Act) → IsSound a → IsSound (supplied left a)
-sound_supplied left (Sets pc rd v) h = h
-sound_supplied left (Loads op rd a) h = h
-sound_supplied left (Stores op a v) h = h
-sound_supplied left (Does call) h = at_cond IsSound (leb (takes call) left) _ _ (λ e. h) (λ e. sound_fault _)
-sound_supplied left (Faults fault) h = h
+sound_supplied : (left : ℕ) (x : List ℕ) (a : Act) → IsSound x a → IsSound x (supplied left a)
+sound_supplied left x (Does call) h = cond_both (leb (takes call) left) _ _ (IsSound x) (λ e. h) (λ e. sound_fault x _)
+sound_supplied left x a h = h
 
-pub sound_act : (s : State) → s.pc % 4 ≡ 0 → IsSound (act s)
+pub acts_are_sound : ActsAreSound
 unfolding act act_of_word
-sound_act s h =
-    at_cond IsSound (leb top s.pc) _ _ (λ e. sound_fault _)
-    (λ e. sound_supplied (length s.words) _ (sound_decoded (decode_of (number_of (bytes s.memory s.pc 4))) _ s.pc s.x h))
+acts_are_sound s h =
+    cond_both (leb top s.pc) _ _ (IsSound s.x) (λ e. sound_fault s.x _)
+    (λ e. sound_supplied (length s.words) s.x _ (sound_decoded (decode_of (number_of (bytes s.memory s.pc 4))) _ s.pc s.x h (grind (arith, nat_tests))))

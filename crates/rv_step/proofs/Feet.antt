@@ -1,8 +1,9 @@
 -- What a footprint contains.
-use Rattle.std.proofs.Common.{◌≡◌, ℕ, ◌/◌, ◌<◌, Bool, true, false, cond, ◌||◌, leb, ltb, eqb, List, [], ◌∷◌, refl, subst, arith, IsTrue, ⊎_elim}
+use Rattle.std.proofs.Common.{◌≡◌, ℕ, ◌/◌, ◌<◌, ◌≤◌, Bool, true, false, cond, ◌||◌, leb, ltb, eqb, List, [], ◌∷◌, refl, subst, arith, IsTrue, ⊎_elim}
 use Rattle.std.proofs.lemmas.Bool.Decides.{nat_tests, leb_tells}
 use Rattle.page_core.specs.Memory.{top, contains, place, ascending, without, Within}
-use Rattle.rv_step.specs.Machine.{pages_of_all, State, foot_of, data_of, act}
+use Rattle.rv_step.specs.declared.act.Act.{Act}
+use Rattle.rv_step.specs.Machine.{pages_of_all, State, foot_at, foot_of, data_of, act}
 use Rattle.page_core.proofs.Listed.{or_split, or_left, or_right}
 
 -- `place q` adds q and keeps the rest
@@ -48,11 +49,19 @@ unfolding without
 contains-without c [] p h = absurd (cc)
 contains-without c (q ∷ qs) p h = dropped c q p qs (without c qs) (eqb c q) refl (contains-without c qs p) h
 
--- the footprint where the fetch is in range
+-- the footprint where the fetch is in range, and where it isn't
+pub foot_at-in_range : (pc : ℕ) (a : Act) → pc < top
+    → foot_at pc a ≡ 262143 ∷ pc / 1024 ∷ ascending (without (pc / 1024) (pages_of_all (data_of a)))
+foot_at-in_range pc a h = let e : leb top pc ≡ false = grind (arith, nat_tests) in rw e refl
+
 pub foot-in_range : (s : State) → s.pc < top
-    → foot_of s ≡ 262143 ∷ s.pc / 1024 ∷ without (s.pc / 1024) (ascending (pages_of_all (data_of (act s))))
+    → foot_of s ≡ 262143 ∷ s.pc / 1024 ∷ ascending (without (s.pc / 1024) (pages_of_all (data_of (act s))))
 unfolding foot_of
-foot-in_range s h = let e : leb top s.pc ≡ false = grind (arith, nat_tests) in rw e
+foot-in_range s h = foot_at-in_range s.pc (act s) h
+
+pub foot-out_of_range : (s : State) → top ≤ s.pc → foot_of s ≡ 262143 ∷ []
+unfolding foot_of
+foot-out_of_range s h = let e : leb top s.pc ≡ true = grind (arith, nat_tests) in rw e refl
 
 -- the code page and each data page are in it
 pub code_in_foot : (s : State) → s.pc < top → IsTrue (contains (foot_of s) (s.pc / 1024))
@@ -63,7 +72,9 @@ code_in_foot s h =
 pub data_in_foot : (s : State) → s.pc < top → Within (pages_of_all (data_of (act s))) (foot_of s)
 data_in_foot s h p is_in =
     rw (foot-in_range s h)
-    (or_right (eqb p 262143) _ (contains-without (s.pc / 1024) _ p (contains-ascending (pages_of_all (data_of (act s))) p is_in)))
+    (or_right (eqb p 262143) _
+    (⊎_elim (λ t. or_left _ _ t) (λ t. or_right (eqb p (s.pc / 1024)) _ (contains-ascending (without (s.pc / 1024) (pages_of_all (data_of (act s)))) p t))
+    (or_split _ _ (contains-without (s.pc / 1024) (pages_of_all (data_of (act s))) p is_in))))
 
 not_in_none : (p : ℕ) → IsTrue (contains [] p) → ⊥
 not_in_none p h = cc
@@ -81,6 +92,6 @@ pub foot_has_registers : (s : State) → IsTrue (contains (foot_of s) 262143)
 unfolding foot_of
 foot_has_registers s = go (leb top s.pc)
   where
-    go : (b : Bool) → IsTrue (contains (cond b (262143 ∷ []) (262143 ∷ s.pc / 1024 ∷ without (s.pc / 1024) (ascending (pages_of_all (data_of (act s)))))) 262143)
+    go : (b : Bool) → IsTrue (contains (cond b (262143 ∷ []) (262143 ∷ s.pc / 1024 ∷ ascending (without (s.pc / 1024) (pages_of_all (data_of (act s)))))) 262143)
     go true = refl
     go false = refl

@@ -5,18 +5,19 @@ use Rattle.std.proofs.lemmas.Bool.Decides.{nat_tests, leb_tells}
 use Rattle.rv_isa.specs.declared.fault.Fault.TheVariants.{InputEnd, BadAddress}
 use Rattle.host_calls.specs.declared.call.Call.{Call}
 use Rattle.host_calls.specs.declared.call.Call.TheVariants.{Halt, Read, Commit, Assume}
-use Rattle.page_core.specs.Memory.{top, bytes, put, number_of, bytes_of_words, contains, pages_from, pages_of, ascending, without, Within, Agree}
+use Rattle.page_core.specs.Memory.{top, bytes, put, number_of, bytes_of_words, contains, pages_from, pages_of, Within, Agree}
 use Rattle.host_calls.specs.Calls.{fits_below, ranges_of, takes}
 use Rattle.rv_step.specs.declared.act.Act.TheVariants.{Sets, Loads, Stores, Does, Faults}
 use Rattle.rv_step.specs.declared.act.Act.{Act}
-use Rattle.rv_step.specs.Machine.{State, Faulted, load_width, loaded, act_of_word, supplied, act, data_of, pages_of_all, called, done, step_of, foot_of, step_cost, cost_of_act, full_of}
+use Rattle.rv_step.specs.Machine.{State, Faulted, load_width, loaded, act_of_word, supplied, act, data_of, pages_of_all, called, done, step_of, foot_at, foot_of, step_cost, cost_of_act, full_of}
 use Rattle.rv_isa.specs.Registers.{with_register}
 use Rattle.rv_step.specs.Laws.{Beside, Alike, AlikeEvents, StepReadsItsFoot}
 use Rattle.page_core.proofs.Bytes.{put-same}
 use Rattle.rv_step.proofs.Full.{agree-after, bytes-agree, length-with_register}
 use Rattle.rv_step.proofs.Feet.{code_in_foot, data_within}
 use Rattle.page_core.proofs.Listed.{contains-left, contains-right}
-use Rattle.rv_step.proofs.Acts.{AllBelow, sound_act}
+use Rattle.rv_step.proofs.Acts.{acts_are_sound}
+use Rattle.rv_step.specs.Acts.{AllBelow}
 
 -- the words that an act takes are there
 abbrev pub IsSupplied : ℕ → Act → Type 0
@@ -196,7 +197,7 @@ ended s e = ap (λ a. done a s) e
 pub foot_same : (s t : State) → t.pc ≡ s.pc → act t ≡ act s → foot_of t ≡ foot_of s
 unfolding foot_of
 foot_same s t e f =
-    ap₂ (λ pc a. cond (leb top pc) (262143 ∷ []) (262143 ∷ pc / 1024 ∷ without (pc / 1024) (ascending (pages_of_all (data_of a))))) e f
+    ap₂ foot_at e f
 
 cost_same : (s t : State) → act t ≡ act s → step_cost t ≡ step_cost s
 unfolding step_cost
@@ -213,5 +214,5 @@ step_reads_its_foot pages more s t aligned same shown ends =
       foot_same s t same.pc e,
       cost_same s t e,
       events pages more s t e
-          (done_alike pages more s t same (act s) (sound_act s aligned).below (λ p h. shown p (data_within s p h)) (supplied_act s)),
+          (done_alike pages more s t same (act s) (acts_are_sound s aligned).below (λ p h. shown p (data_within s p h)) (supplied_act s)),
     )

@@ -1,30 +1,25 @@
--- What a step leaves: the memory outside its footprint, and a state that is ready.
-use Rattle.std.proofs.Common.{◌≡◌, ℕ, zero, suc, ◌+◌, ◌*◌, ◌/◌, ◌%◌, ◌^◌, ◌<◌, ◌≤◌, Bool, true, false, List, [], ◌∷◌, ◌++◌, length, get_or, take, set, refl, sym, ap, ◌∙◌, subst, arith, IsFalse, inl, inr, ◌⊎◌, ⊎_elim, length-take}
+-- What a step leaves, by cases on its act.
+use Rattle.std.proofs.Common.{◌≡◌, ℕ, zero, suc, ◌+◌, ◌-◌, ◌*◌, ◌/◌, ◌%◌, ◌^◌, ◌<◌, ◌≤◌, Bool, true, false, List, [], ◌∷◌, ◌++◌, length, get_or, take, set, refl, ◌∙◌, subst, arith, IsTrue, IsFalse, inl, inr, ◌⊎◌, ⊎_elim, sym, length-take}
 use Rattle.std.proofs.lemmas.Bool.Decides.{leb_tells}
-use Rattle.rv_isa.specs.declared.fault.Fault.{Fault}
+use Rattle.std.proofs.lemmas.List.Elements.{All-append}
+use Rattle.rv_isa.specs.declared.fault.Fault.TheVariants.{BadAddress}
 use Rattle.host_calls.specs.declared.call.Call.{Call}
 use Rattle.host_calls.specs.declared.call.Call.TheVariants.{Halt, Read, Commit, Assume}
-use Rattle.page_core.specs.Memory.{put, bytes_of, bytes_of_words, contains, pages_of}
+use Rattle.page_core.specs.Memory.{top, bytes, put, bytes_of, bytes_of_words, contains, pages_of, Within}
 use Rattle.host_calls.specs.Calls.{ranges_of}
 use Rattle.rv_step.specs.declared.act.Act.TheVariants.{Sets, Loads, Stores, Does, Faults}
 use Rattle.rv_step.specs.declared.act.Act.{Act}
-use Rattle.rv_step.specs.Machine.{State, Went, Halted, Faulted, store_width, act, data_of, pages_of_all, next, called, done, step_of}
+use Rattle.rv_step.specs.Machine.{State, Event, Went, Halted, Faulted, store_width, act, data_of, pages_of_all, next, called, done, step_of, foot_of}
 use Rattle.rv_isa.specs.Registers.{with_register, AreRegisters}
-use Rattle.rv_step.specs.Laws.{IsReady, StepWritesItsFoot, StepKeepsReady}
+use Rattle.rv_step.specs.Laws.{IsReady}
+use Rattle.rv_step.specs.Acts.{IsSound, IsMade, Keeps, StepKeeps, StepHaltsWithWord}
 use Rattle.page_core.proofs.Bytes.{put-outside, in_pages_of, length-bytes_of_words}
+use Rattle.page_core.proofs.Listed.{contains-left}
 use Rattle.rv_step.proofs.Full.{length-with_register}
 use Rattle.rv_step.proofs.Feet.{data_within}
-use Rattle.page_core.proofs.Listed.{contains-left}
-use Rattle.rv_step.proofs.Acts.{sound_act, GoesAligned}
-
-pub went : (s t : State) → Went s ≡ Went t → s ≡ t
-went s t e = cc
-
-pub no_halt : (c : ℕ) (t : State) → Halted c ≡ Went t → ⊥
-no_halt c t e = cc
-
-pub no_fault : (f : Fault) (t : State) → Faulted f ≡ Went t → ⊥
-no_fault f t e = cc
+use Rattle.rv_step.proofs.Acts.{acts_are_sound}
+use Rattle.rv_step.proofs.Frame.{act_out}
+use Rattle.rv_step.proofs.Made.{AreCalls-append, bytes_are, digest_read, put_small, length-bytes_of, bytes_of-small, bytes_of_words-small}
 
 pub both : (b : Bool) → b ≡ true → b ≡ false → ⊥
 both b e f = cc
@@ -33,50 +28,20 @@ pub not_true : (b : Bool) → (b ≡ true → ⊥) → b ≡ false
 not_true true h = absurd (h refl)
 not_true false h = refl
 
-pub length-bytes_of : (n v : ℕ) → length (bytes_of n v) ≡ n
-unfolding bytes_of
-length-bytes_of zero v = refl
-length-bytes_of (suc n) v = ap suc (length-bytes_of n (v / 256))
-
-out_of_range : (a n k : ℕ) → IsFalse (contains (pages_of a n) (k / 1024)) → (k < a) ⊎ (a + n ≤ k)
+-- ---- memory
+out_of_range : (a n k : ℕ) → (IsTrue (contains (pages_of a n) (k / 1024)) → ⊥) → (k < a) ⊎ (a + n ≤ k)
 out_of_range a n k h =
-    ⊎_elim (λ t. ⊎_elim (λ u. inr u.1) (λ u. absurd (both _ (in_pages_of a n k t.1 (omega (arith, u.1))) h)) (leb_tells (a + n) k)) (λ t. inl t.1) (leb_tells a k)
+    ⊎_elim (λ t. ⊎_elim (λ u. inr u.1) (λ u. absurd (h (in_pages_of a n k t.1 (omega (arith, u.1))))) (leb_tells (a + n) k)) (λ t. inl t.1) (leb_tells a k)
 
-left_false : (ps qs : List ℕ) (p : ℕ) → IsFalse (contains (ps ++ qs) p) → IsFalse (contains ps p)
-left_false ps qs p h = not_true _ (λ e. both _ (contains-left ps qs p e) h)
-
-put_out : (m : ℕ → ℕ) (a n : ℕ) (bs : List ℕ) (k : ℕ) → length bs ≤ n → IsFalse (contains (pages_of a n ++ []) (k / 1024)) → put m a bs k ≡ m k
-put_out m a n bs k size h =
+-- what is put in a range is out of pages that don't show it
+put_out : (m : ℕ → ℕ) (a n : ℕ) (bs pages : List ℕ) (k : ℕ) → length bs ≤ n → Within (pages_of a n ++ []) pages → IsFalse (contains pages (k / 1024))
+    → put m a bs k ≡ m k
+put_out m a n bs pages k size shown h =
     put-outside m a bs k
-    (⊎_elim (λ t. inl t) (λ t. inr (omega (arith, t, size))) (out_of_range a n k (left_false (pages_of a n) [] (k / 1024) h)))
+    (⊎_elim (λ t. inl t) (λ t. inr (omega (arith, t, size)))
+    (out_of_range a n k (λ e. both _ (shown (k / 1024) (contains-left (pages_of a n) [] (k / 1024) e)) h)))
 
-called_writes : (call : Call) (s t : State) (k : ℕ) → called call s ≡ Went t → IsFalse (contains (pages_of_all (ranges_of call)) (k / 1024))
-    → t.memory k ≡ s.memory k
-unfolding called pages_of_all
-called_writes (Halt code) s t k e h = absurd (no_halt code t e)
-called_writes (Read pointer count) s t k e h =
-    sym (ap (λ u. u.memory k) (went _ t e))
-    ∙ put_out s.memory pointer (4 * count) (bytes_of_words (take count s.words)) k (omega (arith, length-bytes_of_words (take count s.words), length-take count s.words)) h
-called_writes (Commit pointer count) s t k e h = sym (ap (λ u. u.memory k) (went _ t e))
-called_writes (Assume image journal) s t k e h = sym (ap (λ u. u.memory k) (went _ t e))
-
-done_writes : (a : Act) (s t : State) (k : ℕ) → done a s ≡ Went t → IsFalse (contains (pages_of_all (data_of a)) (k / 1024))
-    → t.memory k ≡ s.memory k
-unfolding done pages_of_all
-done_writes (Sets pc rd v) s t k e h = sym (ap (λ u. u.memory k) (went _ t e))
-done_writes (Loads op rd a) s t k e h = sym (ap (λ u. u.memory k) (went _ t e))
-done_writes (Stores op a v) s t k e h =
-    sym (ap (λ u. u.memory k) (went _ t e))
-    ∙ put_out s.memory a (store_width op) (bytes_of (store_width op) v) k (omega (arith, length-bytes_of (store_width op) v)) h
-done_writes (Does call) s t k e h = called_writes call s t k e h
-done_writes (Faults f) s t k e h = absurd (no_fault f t e)
-
-pub step_writes_its_foot : StepWritesItsFoot
-unfolding step_of
-step_writes_its_foot s t k e h =
-    done_writes (act s) s t k e (not_true _ (λ f. both _ (data_within s (k / 1024) f) h))
-
--- ---- ready states
+-- ---- registers
 set_below : (bound : ℕ) (x : List ℕ) (i v n : ℕ) → v < bound → ((k : ℕ) → get_or x k 0 < bound) → get_or (set x i v) n 0 < bound
 set_below bound [] i v n h all = all n
 set_below bound (y ∷ x) zero v zero h all = h
@@ -96,28 +61,89 @@ registers_with x (suc i) v h = record {
   are_words = λ n. set_below (2 ^ 32) x (suc i) (v % 2 ^ 32) n (omega arith) h.are_words;
 }
 
-ready_next : (s u : State) (rd v : ℕ) → IsReady s → u.pc ≡ s.pc → u.x ≡ s.x → IsReady (next u rd v)
-ready_next s u rd v h ep ex = record {
-  aligned = let a : s.pc % 4 ≡ 0 = h.aligned in omega (arith, ep);
-  registers = subst (λ (x : List ℕ). AreRegisters (with_register x rd v)) (sym ex) (registers_with s.x rd v h.registers);
-}
+-- ---- an act
+-- what is shown of the event of a step from s
+abbrev Leaves : State → Event → Type 0
+Leaves s (Went t) = Keeps s t
+Leaves s (Halted code) = IsReady s → code < 2 ^ 32
+Leaves s (Faulted fault) = Unit {0}
 
-called_ready : (call : Call) (s t : State) → IsReady s → called call s ≡ Went t → IsReady t
-unfolding called
-called_ready (Halt code) s t h e = absurd (no_halt code t e)
-called_ready (Read pointer count) s t h e = subst (λ (u : State). IsReady u) (went _ t e) (ready_next s _ 10 count h refl refl)
-called_ready (Commit pointer count) s t h e = subst (λ (u : State). IsReady u) (went _ t e) (ready_next s _ 10 count h refl refl)
-called_ready (Assume image journal) s t h e = subst (λ (u : State). IsReady u) (went _ t e) (ready_next s _ 10 0 h refl refl)
+module _ (s : State) (below : s.pc < top) where
+  -- it goes on from a state u that has the pc and registers of s
+  keeps_next : (u : State) (rd v : ℕ) → u.pc ≡ s.pc → u.x ≡ s.x
+      → ((k : ℕ) → IsFalse (contains (foot_of s) (k / 1024)) → u.memory k ≡ s.memory k) → (IsMade s → IsMade u) → Keeps s (next u rd v)
+  keeps_next u rd v ep ex outside made = record {
+    outside = outside;
+    ready = λ h. record {
+      aligned = let a : s.pc % 4 ≡ 0 = h.aligned in omega (arith, ep);
+      registers = subst (λ (x : List ℕ). AreRegisters (with_register x rd v)) (sym ex) (registers_with s.x rd v h.registers);
+      is_word = omega (arith, ep);
+    };
+    made = λ h. record { memory = (made h).memory; journal = (made h).journal; calls = (made h).calls };
+  }
 
-done_ready : (a : Act) (s t : State) → GoesAligned a → IsReady s → done a s ≡ Went t → IsReady t
+  called_leaves : (call : Call) → (s.pc % 4 ≡ 0 → IsSound s.x (Does call)) → Within (pages_of_all (ranges_of call)) (foot_of s) → Leaves s (called call s)
+  unfolding called pages_of_all
+  called_leaves (Halt code) sound shown = λ h. (sound h.aligned).exit (h.registers.are_words 10)
+  called_leaves (Read pointer count) sound shown =
+      keeps_next _ 10 count refl refl
+      (λ k h. put_out s.memory pointer (4 * count) (bytes_of_words (take count s.words)) (foot_of s) k
+      (omega (arith, length-bytes_of_words (take count s.words), length-take count s.words)) shown h)
+      (λ h. record {
+        memory = λ k. put_small s.memory pointer (bytes_of_words (take count s.words)) k (h.memory k) (bytes_of_words-small (take count s.words) (k - pointer));
+        journal = h.journal;
+        calls = h.calls;
+      })
+  called_leaves (Commit pointer count) sound shown =
+      keeps_next _ 10 count refl refl (λ k h. refl)
+      (λ h. record {
+        memory = h.memory;
+        journal = All-append (λ (b : ℕ). b < 256) s.journal (bytes s.memory pointer count) h.journal (bytes_are s.memory pointer count h.memory);
+        calls = h.calls;
+      })
+  called_leaves (Assume image journal) sound shown =
+      keeps_next _ 10 0 refl refl (λ k h. refl)
+      (λ h. record {
+        memory = h.memory;
+        journal = h.journal;
+        calls = AreCalls-append s.calls _ h.calls ((digest_read s.memory image h.memory, digest_read s.memory journal h.memory), tt);
+      })
+
+  done_leaves : (a : Act) → (s.pc % 4 ≡ 0 → IsSound s.x a) → Within (pages_of_all (data_of a)) (foot_of s) → Leaves s (done a s)
+  unfolding done pages_of_all
+  done_leaves (Sets pc rd v) sound shown = record {
+    outside = λ k h. refl;
+    ready = λ h. record {
+      aligned = (sound h.aligned).goes.0;
+      registers = registers_with s.x rd v h.registers;
+      is_word = (sound h.aligned).goes.1;
+    };
+    made = λ h. record { memory = h.memory; journal = h.journal; calls = h.calls };
+  }
+  done_leaves (Loads op rd a) sound shown = keeps_next s rd _ refl refl (λ k h. refl) (λ h. h)
+  done_leaves (Stores op a v) sound shown =
+      keeps_next _ 0 0 refl refl
+      (λ k h. put_out s.memory a (store_width op) (bytes_of (store_width op) v) (foot_of s) k (omega (arith, length-bytes_of (store_width op) v)) shown h)
+      (λ h. record {
+        memory = λ k. put_small s.memory a (bytes_of (store_width op) v) k (h.memory k) (bytes_of-small (store_width op) v (k - a));
+        journal = h.journal;
+        calls = h.calls;
+      })
+  done_leaves (Does call) sound shown = called_leaves call sound shown
+  done_leaves (Faults f) sound shown = tt
+
+-- ---- a step
+out_leaves : (s : State) (a : Act) → a ≡ Faults (BadAddress s.pc) → Leaves s (done a s)
 unfolding done
-done_ready (Sets pc rd v) s t g h e =
-    subst (λ (u : State). IsReady u) (went _ t e) (record { aligned = g; registers = registers_with s.x rd v h.registers })
-done_ready (Loads op rd a) s t g h e = subst (λ (u : State). IsReady u) (went _ t e) (ready_next s s rd _ h refl refl)
-done_ready (Stores op a v) s t g h e = subst (λ (u : State). IsReady u) (went _ t e) (ready_next s _ 0 0 h refl refl)
-done_ready (Does call) s t g h e = called_ready call s t h e
-done_ready (Faults f) s t g h e = absurd (no_fault f t e)
+out_leaves s a e = rw e tt
 
-pub step_keeps_ready : StepKeepsReady
+step_leaves : (s : State) → Leaves s (step_of s)
 unfolding step_of
-step_keeps_ready s t h e = done_ready (act s) s t (sound_act s h.aligned).goes h e
+step_leaves s =
+    ⊎_elim (λ t. out_leaves s (act s) (act_out s t.0)) (λ t. done_leaves s t.1 (act s) (acts_are_sound s) (data_within s)) (leb_tells top s.pc)
+
+pub step_keeps : StepKeeps
+step_keeps s t e = subst (λ (v : Event). Leaves s v) e (step_leaves s)
+
+pub step_halts_with_word : StepHaltsWithWord
+step_halts_with_word s code ready e = subst (λ (v : Event). Leaves s v) e (step_leaves s) ready

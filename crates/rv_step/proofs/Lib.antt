@@ -2,6 +2,12 @@ pub mod Full
 pub mod Feet
 pub mod Acts
 pub mod Frame
+pub mod Made
 pub mod Kept
+pub mod Small
 pub mod Runs
+pub mod Words
+pub mod Done
+pub mod Opened
+pub mod Looks
 pub mod Steps

@@ -5,7 +5,7 @@ use Rattle.rv_step.specs.Machine.{State, Event, Went, Halted, Faulted, step_of, 
 use Rattle.rv_step.specs.Runs.{after, spent, state_gone, at_some}
 use Rattle.rv_step.specs.Laws.{IsReady, Beside, Alike, AlikeEvents, RunReadsItsFeet}
 use Rattle.rv_step.proofs.Frame.{step_reads_its_foot}
-use Rattle.rv_step.proofs.Kept.{step_keeps_ready, no_fault}
+use Rattle.rv_step.proofs.Kept.{step_keeps}
 
 pub same_some : {A : Type 0} (x y : A) → Some x ≡ Some y → x ≡ y
 same_some x y e = cc
@@ -28,12 +28,18 @@ pub step_back : (s : State) (n : ℕ) (t : State) → after s (suc n) ≡ Some t
 unfolding after
 step_back s n t h = back (after s n) t h
 
+-- what each step that goes on keeps, a run keeps
+pub run_keeps : (P : State → Type 0) → ((u v : State) → step_of u ≡ Went v → P u → P v) → (s : State) (n : ℕ) (t : State) → P s → after s n ≡ Some t → P t
+unfolding after
+run_keeps P keeps s zero t h e = subst P (same_some s t e) h
+run_keeps P keeps s (suc n) t h e = let (u, before, goes) = step_back s n t e in keeps u t goes (run_keeps P keeps s n u h before)
+
 pub step_on : (s : State) (n : ℕ) (t u : State) → after s n ≡ Some t → step_of t ≡ Went u → after s (suc n) ≡ Some u
 unfolding after
 step_on s n t u h e = ap (option_and_then (λ t. state_gone (step_of t))) h ∙ ap state_gone e
 
 pub not_ended : (s t : State) (f : Fault) → step_of s ≡ Went t → step_of s ≡ Faulted f → ⊥
-not_ended s t f e h = no_fault f t (sym h ∙ e)
+not_ended s t f e h = cc
 
 -- what is like a step that went went
 like_went : (pages : List ℕ) (more : Beside) (s : State) (e : Event) → AlikeEvents pages more (Went s) e
@@ -67,7 +73,7 @@ run_reads_its_feet pages more s r (suc n) t ready same h feet =
       step_on r n v w reached on,
       like,
       spent_more r n v reached ∙ ap₂ ◌+◌ costs cost ∙ sym (spent_more s n u before),
-      step_keeps_ready u t fit goes,
+      (step_keeps u t goes).ready fit,
     )
 
 pub after-add : (s : State) (b n : ℕ) (t : State) → after s b ≡ Some t → after s (b + n) ≡ after t n

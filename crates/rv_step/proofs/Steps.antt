@@ -1,104 +1,192 @@
--- What the first parts of a step tell, on a state s whose word is w.
-use Rattle.std.proofs.Common.{◌≡◌, ℕ, ◌+◌, ◌/◌, ◌<◌, ◌≤◌, Bool, true, false, cond, leb, List, [], ◌∷◌, length, refl, sym, ap, ◌∙◌, arith, Some, None}
-use Rattle.std.proofs.lemmas.Bool.Decides.{nat_tests}
+-- The act that is next, and what doing it answers.
+use Rattle.std.proofs.Common.{◌≡◌, ℕ, zero, suc, ◌+◌, ◌/◌, ◌%◌, ◌<◌, Bool, true, false, not, cond, leb, eqb, List, [], ◌∷◌, length, get_or, take, refl, sym, ap, ◌∙◌, subst, arith, add-zero, IsTrue, Option, Some, None, Result, Ok, Err, ⊎_elim}
+use Rattle.std.proofs.lemmas.Bool.Decides.{nat_tests, leb_tells}
+use Rattle.rv_isa.specs.declared.instr.LoadOp.{LoadOp}
+use Rattle.rv_isa.specs.declared.instr.LoadOp.TheVariants.{Lb, Lh, Lw, Lbu, Lhu}
+use Rattle.rv_isa.specs.declared.instr.StoreOp.{StoreOp}
+use Rattle.rv_isa.specs.declared.instr.StoreOp.TheVariants.{Sb, Sh, Sw}
 use Rattle.rv_isa.specs.declared.fault.Fault.{Fault}
-use Rattle.rv_isa.specs.declared.fault.Fault.TheVariants.{BadAddress, Illegal}
-use Rattle.rv_isa.specs.declared.instr.Instr.TheVariants.{Ecall}
-use Rattle.host_calls.specs.declared.call.Call.TheVariants.{Halt}
-use Rattle.host_calls.specs.Calls.{read_call_of, call_with}
-use Rattle.page_core.specs.Memory.{top, bytes, number_of, ascending, without}
-use Rattle.rv_isa.specs.Rows.{decode_of}
-use Rattle.rv_step.specs.declared.act.Act.TheVariants.{Sets, Does, Faults}
+use Rattle.host_calls.specs.declared.call.Call.{Call}
+use Rattle.page_core.specs.Memory.{top, contains, pages_of, ascending, without}
 use Rattle.rv_step.specs.declared.act.Act.{Act}
-use Rattle.rv_step.specs.Machine.{State, Went, Halted, Faulted, act_of, call_act, act_of_word, supplied, act, data_of, pages_of_all, done, called, step_of, foot_of, first_closed}
-use Rattle.rv_step.specs.Stepping.{fetch_foot, is_built, known_act, IsDone}
-use Rattle.rv_step.specs.declared.known.Known.TheVariants as K
-use Rattle.rv_isa.specs.Registers.{register, with_register}
+use Rattle.rv_step.specs.declared.act.Act.TheVariants.{Sets, Does, Faults}
+use Rattle.rv_step.specs.Machine.{State, Event, Went, Faulted, load_width, store_width, act, done, called, data_of, pages_of_all, foot_at, foot_of, step_of, first_closed}
+use Rattle.rv_isa.specs.Registers.{with_register}
+use Rattle.rv_step.specs.declared.stepping.Event.{Event as StepEvent}
+use Rattle.rv_step.specs.declared.stepping.Event.TheVariants as E
+use Rattle.rv_step.specs.declared.stepping.StepStop.{StepStop}
+use Rattle.rv_step.specs.declared.stepping.StepStop.TheVariants as S
+use Rattle.rv_step.specs.Stepping.{fetch_foot, Opens, AllOpen, IsNext, Answers, IsStepOf, fetched, act_fault}
+use Rattle.rv_step.specs.Acts.{IsSound}
+use Rattle.rv_step.proofs.Acts.{acts_are_sound}
+use Rattle.rv_step.proofs.Frame.{IsSupplied, supplied_act}
+use Rattle.rv_step.proofs.Feet.{data_within}
+use Rattle.page_core.proofs.Listed.{or_split, contains-left, contains-right}
+use Rattle.page_core.proofs.Bytes.{in_pages_of}
+use Rattle.rv_step.proofs.Looks.{out, missed, told}
 
-pub no_register_page : (opens : ℕ → Bool) (s : State) → opens 262143 ≡ false → first_closed opens (fetch_foot s) ≡ Some 262143
-no_register_page opens s h = go (leb top s.pc)
+-- ---- pages that are tested one after the other
+closed_here : (opens : ℕ → Bool) (pages : List ℕ) (k : ℕ) → k < length pages → first_closed opens (take k pages) ≡ None → opens (get_or pages k 0) ≡ false
+    → first_closed opens pages ≡ Some (get_or pages k 0)
+closed_here opens [] k h none shut = absurd (omega arith)
+closed_here opens (p ∷ pages) zero h none shut = rw shut refl
+closed_here opens (p ∷ pages) (suc k) h none shut = go (opens p) none (λ rest. closed_here opens pages k (omega arith) rest shut)
   where
-    go : (b : Bool) → first_closed opens (cond b (262143 ∷ []) (262143 ∷ s.pc / 1024 ∷ [])) ≡ Some 262143
-    go true = rw h refl
-    go false = rw h refl
+    go : (b : Bool) → cond (not b) (Some p) (first_closed opens (take k pages)) ≡ None
+        → (first_closed opens (take k pages) ≡ None → first_closed opens pages ≡ Some (get_or pages k 0))
+        → cond (not b) (Some p) (first_closed opens pages) ≡ Some (get_or pages k 0)
+    go true none rest = rest none
+    go false none rest = absurd (cc)
 
-pub fetch_open : (opens : ℕ → Bool) (s : State) → opens 262143 ≡ true → top ≤ s.pc → first_closed opens (fetch_foot s) ≡ None
-fetch_open opens s h l = let e : leb top s.pc ≡ true = grind (arith, nat_tests) in rw (e, h) refl
+open_here : (opens : ℕ → Bool) (pages : List ℕ) (k : ℕ) → k < length pages → first_closed opens (take k pages) ≡ None → opens (get_or pages k 0) ≡ true
+    → first_closed opens (take (suc k) pages) ≡ None
+open_here opens [] k h none shown = absurd (omega arith)
+open_here opens (p ∷ pages) zero h none shown = rw shown refl
+open_here opens (p ∷ pages) (suc k) h none shown = go (opens p) none (λ rest. open_here opens pages k (omega arith) rest shown)
+  where
+    go : (b : Bool) → cond (not b) (Some p) (first_closed opens (take k pages)) ≡ None
+        → (first_closed opens (take k pages) ≡ None → first_closed opens (take (suc k) pages) ≡ None)
+        → cond (not b) (Some p) (first_closed opens (take (suc k) pages)) ≡ None
+    go true none rest = rest none
+    go false none rest = absurd (cc)
 
-pub fetch_faults : (s : State) → top ≤ s.pc → step_of s ≡ Faulted (BadAddress s.pc)
-unfolding step_of act done
-fetch_faults s l = let e : leb top s.pc ≡ true = grind (arith, nat_tests) in rw e refl
+pub closed_at : (opens : ℕ → Bool) (pages : List ℕ) (k : ℕ) (b : Bool) → k < length pages → first_closed opens (take k pages) ≡ None
+    → b ≡ opens (get_or pages k 0) → b ≡ false → Some (get_or pages k 0) ≡ first_closed opens pages
+closed_at opens pages k b h none is shut = sym (closed_here opens pages k h none (sym is ∙ shut))
 
-fetch_in : (s : State) → s.pc < top → fetch_foot s ≡ 262143 ∷ s.pc / 1024 ∷ []
-fetch_in s l = let e : leb top s.pc ≡ false = grind (arith, nat_tests) in rw e refl
+pub open_on : (opens : ℕ → Bool) (pages : List ℕ) (k : ℕ) (b : Bool) → k < length pages → first_closed opens (take k pages) ≡ None
+    → b ≡ opens (get_or pages k 0) → b ≡ true → first_closed opens (take (k + 1) pages) ≡ None
+open_on opens pages k b h none is shown =
+    let next : k + 1 ≡ suc k = omega arith in
+    ap (λ j. first_closed opens (take j pages)) next ∙ open_here opens pages k h none (sym is ∙ shown)
 
-pub no_code_page : (opens : ℕ → Bool) (s : State) → opens 262143 ≡ true → s.pc < top → opens (s.pc / 1024) ≡ false
-    → first_closed opens (fetch_foot s) ≡ Some (s.pc / 1024)
-no_code_page opens s h l k = ap (first_closed opens) (fetch_in s l) ∙ rw (h, k) refl
+-- ---- doing what was looked at
+-- a page that the fetch misses is the first of the footprint that isn't open
+pub first_in_fetch : (opens : ℕ → Bool) (s : State) (page : ℕ) → first_closed opens (fetch_foot s) ≡ Some page → first_closed opens (foot_of s) ≡ Some page
+unfolding foot_of
+first_in_fetch opens s page h = go (leb top s.pc) h
+  where
+    go : (b : Bool) → first_closed opens (cond b (262143 ∷ []) (262143 ∷ s.pc / 1024 ∷ [])) ≡ Some page
+        → first_closed opens (cond b (262143 ∷ []) (262143 ∷ s.pc / 1024 ∷ ascending (without (s.pc / 1024) (pages_of_all (data_of (act s)))))) ≡ Some page
+    go true h = h
+    go false h = more (opens 262143) (opens (s.pc / 1024)) h
+      where
+        rest : Option ℕ
+        rest = first_closed opens (ascending (without (s.pc / 1024) (pages_of_all (data_of (act s)))))
 
-pub code_open : (opens : ℕ → Bool) (s : State) → opens 262143 ≡ true → s.pc < top → opens (s.pc / 1024) ≡ true → first_closed opens (fetch_foot s) ≡ None
-code_open opens s h l k = ap (first_closed opens) (fetch_in s l) ∙ rw (h, k) refl
+        more : (b c : Bool) → cond (not b) (Some 262143) (cond (not c) (Some (s.pc / 1024)) None) ≡ Some page
+            → cond (not b) (Some 262143) (cond (not c) (Some (s.pc / 1024)) rest) ≡ Some page
+        more false c h = h
+        more true false h = h
+        more true true h = absurd (cc)
 
--- an act with no data touches what its fetch touches
-pub plain_foot : (s : State) → s.pc < top → data_of (act s) ≡ [] → foot_of s ≡ fetch_foot s
-unfolding foot_of pages_of_all ascending without
-plain_foot s l none =
-    let e : leb top s.pc ≡ false = grind (arith, nat_tests) in
-    rw (e, none) refl
+-- where none is closed each is open
+all_open : (opens : ℕ → Bool) (pages : List ℕ) → first_closed opens pages ≡ None → (p : ℕ) → IsTrue (contains pages p) → IsTrue (opens p)
+all_open opens [] none p h = absurd (cc)
+all_open opens (q ∷ pages) none p h = go (opens q) refl none (all_open opens pages)
+  where
+    same : (p q : ℕ) → IsTrue (eqb p q) → q ≡ p
+    same p q h = grind (arith, nat_tests)
 
-act_in : (s : State) → s.pc < top → act s ≡ supplied (length s.words) (act_of_word (number_of (bytes s.memory s.pc 4)) s.pc s.x)
-unfolding act
-act_in s l = let e : leb top s.pc ≡ false = grind (arith, nat_tests) in rw e
+    go : (b : Bool) → opens q ≡ b → cond (not b) (Some q) (first_closed opens pages) ≡ None
+        → (first_closed opens pages ≡ None → (p : ℕ) → IsTrue (contains pages p) → IsTrue (opens p)) → IsTrue (opens p)
+    go true e none rest = ⊎_elim (λ t. ap opens (sym (same p q t)) ∙ e) (rest none p) (or_split (eqb p q) (contains pages p) h)
+    go false e none rest = absurd (cc)
 
--- the act of a state whose word is w
-acts_as : (s : State) (w : ℕ) (a : Act) → s.pc < top → w ≡ number_of (bytes s.memory s.pc 4) → act_of_word w s.pc s.x ≡ a
-    → act s ≡ supplied (length s.words) a
-acts_as s w a l e f =
-    act_in s l
-    ∙ ap (λ n. supplied (length s.words) (act_of_word n s.pc s.x)) (sym e)
-    ∙ ap (supplied (length s.words)) f
+-- ranges of data whose pages are open
+pub ranges_open : (opens : ℕ → Bool) (rs : List (ℕ × ℕ)) → ((p : ℕ) → IsTrue (contains (pages_of_all rs) p) → IsTrue (opens p)) → AllOpen opens rs
+unfolding pages_of_all
+ranges_open opens [] h = tt
+ranges_open opens (r ∷ rs) h = (
+  λ k l. h ((r.0 + k) / 1024) (contains-left (pages_of r.0 r.1) (pages_of_all rs) ((r.0 + k) / 1024) (in_pages_of r.0 r.1 (r.0 + k) (omega arith) (omega arith))),
+  ranges_open opens rs (λ p m. h p (contains-right (pages_of r.0 r.1) (pages_of_all rs) p m)),
+)
 
--- ECALL with 0 in x17 halts
-pub halt_act : (w pc : ℕ) (x : List ℕ) → Some Ecall ≡ decode_of w → register x 17 ≡ 0 → act_of_word w pc x ≡ Does (Halt (register x 10))
-unfolding act_of_word act_of read_call_of
-halt_act w pc x e z =
-    ap (λ o. elim o [ Some i ↦ act_of i pc x | None ↦ Faults (Illegal w) ]) (sym e)
-    ∙ ap (λ n. call_act (call_with n (register x 10) (register x 11))) z
+pub missed_first : (opens : ℕ → Bool) (s : State) (page : ℕ) → Err page ≡ fetched opens s → first_closed opens (foot_of s) ≡ Some page
+missed_first opens s page h = first_in_fetch opens s page (missed opens s page h)
 
-pub supplied_halt : (left code : ℕ) → supplied left (Does (Halt code)) ≡ Does (Halt code)
-supplied_halt left code = let some : leb 0 left ≡ true = grind (arith, nat_tests) in rw some refl
+-- an act that was told, and whose footprint has no closed page, is next
+pub is_next : (opens : ℕ → Bool) (s : State) (a : Act) (foot pages : List ℕ) → Ok a ≡ fetched opens s → foot ≡ foot_at s.pc a → pages ≡ foot
+    → None ≡ first_closed opens pages → IsNext opens s a
+unfolding foot_of
+is_next opens s a foot pages is made listed none =
+    let same : a ≡ act s = (told opens s a is).0 in
+    record { is = same; no_closed = sym (none ∙ ap (first_closed opens) (listed ∙ made ∙ ap (foot_at s.pc) same)) }
 
-pub faults : (s : State) (f : Fault) → act s ≡ Faults f → step_of s ≡ Faulted f
-unfolding step_of done
-faults s f e = ap (λ a. done a s) e
+pub is_missed : (opens : ℕ → Bool) (s : State) (a : Act) (foot pages : List ℕ) (page : ℕ) → Ok a ≡ fetched opens s → foot ≡ foot_at s.pc a → pages ≡ foot
+    → Some page ≡ first_closed opens pages → first_closed opens (foot_of s) ≡ Some page
+unfolding foot_of
+is_missed opens s a foot pages page is made listed some =
+    sym (some ∙ ap (first_closed opens) (listed ∙ made ∙ ap (foot_at s.pc) (told opens s a is).0))
 
-pub goes_on : (s : State) (pc rd v : ℕ) → act s ≡ Sets pc rd v → step_of s ≡ Went (record s { pc = pc; x = with_register s.x rd v })
-unfolding step_of done
-goes_on s pc rd v e = ap (λ a. done a s) e
+module _ (opens : ℕ → Bool) (s : State) (a : Act) (next : IsNext opens s a) where
+  pub next_sound : s.pc % 4 ≡ 0 → IsSound s.x a
+  next_sound aligned = subst (λ (b : Act). IsSound s.x b) (sym next.is) (acts_are_sound s aligned)
 
-pub halts : (s : State) (code : ℕ) → act s ≡ Does (Halt code) → step_of s ≡ Halted code
-unfolding step_of done called
-halts s code e = ap (λ a. done a s) e
+  -- one that doesn't fault was fetched in range
+  pub next_place : act_fault a ≡ None → s.pc < top
+  next_place none = ⊎_elim (λ t. absurd (some_none _ (sym (ap act_fault (next.is ∙ out s t.1)) ∙ none))) (λ t. t.1) (leb_tells top s.pc)
+    where
+      some_none : (f : Fault) → Some f ≡ None → ⊥
+      some_none f e = cc
 
-module _ (opens : ℕ → Bool) (s : State) (w : ℕ) (registers_open : opens 262143 ≡ true) (below : s.pc < top) (code : opens (s.pc / 1024) ≡ true)
-    (fetched : w ≡ number_of (bytes s.memory s.pc 4)) (known : is_built (decode_of w) (register s.x 17) ≡ true) where
-  is_done : data_of (act s) ≡ [] → IsDone opens s
-  is_done plain = record {
-    in_range = below;
-    is_built = ap (λ n. is_built (decode_of n) (register s.x 17)) (sym fetched) ∙ known;
-    foot = plain_foot s below plain;
-    open_foot = ap (first_closed opens) (plain_foot s below plain) ∙ code_open opens s registers_open below code;
-  }
+  pub next_supplied : IsSupplied (length s.words) a
+  next_supplied = subst (λ (b : Act). IsSupplied (length s.words) b) (sym next.is) (supplied_act s)
 
-  -- an instruction that sets a register is done
-  pub sets_done : (rd v : ℕ) → act_of_word w s.pc s.x ≡ known_act s.pc (K.Sets rd v)
-      → IsDone opens s × (step_of s ≡ Went (record s { pc = s.pc + 4; x = with_register s.x rd v }))
-  sets_done rd v f =
-      let acts : act s ≡ Sets (s.pc + 4) rd v = acts_as s w (Sets (s.pc + 4) rd v) below fetched f in
-      (is_done (ap data_of acts), goes_on s (s.pc + 4) rd v acts)
+  pub next_step : step_of s ≡ done a s
+  unfolding step_of
+  next_step = ap (λ b. done b s) (sym next.is)
 
-  -- so is a halt
-  pub halts_done : (c : ℕ) → act_of_word w s.pc s.x ≡ known_act s.pc (K.Halts c) → IsDone opens s × (step_of s ≡ Halted c)
-  halts_done c f =
-      let acts : act s ≡ Does (Halt c) = acts_as s w (Does (Halt c)) below fetched f ∙ supplied_halt (length s.words) c in
-      (is_done (ap data_of acts), halts s c acts)
+  -- its data lie in open pages
+  pub next_open : AllOpen opens (data_of a)
+  next_open =
+      ranges_open opens (data_of a)
+      (λ p h. all_open opens (foot_of s) next.no_closed p (data_within s p (subst (λ (b : Act). IsTrue (contains (pages_of_all (data_of b)) p)) next.is h)))
+
+-- the same, of an act that is seen to be this one
+pub next_as : (opens : ℕ → Bool) (s : State) (a b : Act) → a ≡ b → IsNext opens s a → IsNext opens s b
+next_as opens s a b e next = subst (λ (c : Act). IsNext opens s c) e next
+
+-- what a step that goes on or halts tells
+pub step_answers : (opens : ℕ → Bool) (s : State) (a : Act) (event : Event) → IsNext opens s a → done a s ≡ event
+    → (first_closed opens (foot_of s) ≡ None) × (step_of s ≡ event)
+step_answers opens s a event next h = (next.no_closed, next_step opens s a next ∙ h)
+
+pub call_done : (call : Call) (s : State) → done (Does call) s ≡ called call s
+unfolding done
+call_done call s = refl
+
+pub sets_done : (pc rd v : ℕ) (s : State) → done (Sets pc rd v) s ≡ Went (record s { pc = pc; x = with_register s.x rd v })
+unfolding done
+sets_done pc rd v s = refl
+
+pub fault_done : (f : Fault) (s : State) → done (Faults f) s ≡ Faulted f
+unfolding done
+fault_done f s = refl
+
+-- the answer of a call, as the step's
+pub call_answers : (opens : ℕ → Bool) (s t : State) (call : Call) (answer : Result StepEvent StepStop) → IsNext opens s (Does call)
+    → Answers (called call s) s t answer → IsStepOf opens s t answer
+call_answers opens s t call (Ok E.Went) next h = step_answers opens s (Does call) _ next (call_done call s ∙ h)
+call_answers opens s t call (Ok (E.Halted code)) next h =
+    let (none, is) = step_answers opens s (Does call) _ next (call_done call s ∙ h.0) in (none, (is, h.1))
+call_answers opens s t call (Err (S.Miss page)) next h = absurd h
+call_answers opens s t call (Err (S.Fault fault)) next h =
+    let (none, is) = step_answers opens s (Does call) _ next (call_done call s ∙ h.0) in (none, (is, h.1))
+call_answers opens s t call (Err S.Memory) next h = (next.no_closed, h)
+
+-- the first byte of a range
+pub open_start : (opens : ℕ → Bool) (a n : ℕ) → 0 < n → Opens opens a n → IsTrue (opens (a / 1024))
+open_start opens a n some each = subst (λ (k : ℕ). IsTrue (opens (k / 1024))) (add-zero a) (each 0 some)
+
+pub load_some : (op : LoadOp) → 0 < load_width op
+load_some Lb = omega arith
+load_some Lh = omega arith
+load_some Lw = omega arith
+load_some Lbu = omega arith
+load_some Lhu = omega arith
+
+pub store_some : (op : StoreOp) → 0 < store_width op
+store_some Sb = omega arith
+store_some Sh = omega arith
+store_some Sw = omega arith

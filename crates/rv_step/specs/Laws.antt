@@ -1,7 +1,7 @@
--- Laws of a step: what it reads, and what it leaves.
-use Rattle.std.specs.Prelude.{◌≡◌, ℕ, ◌/◌, ◌%◌, ◌<◌, List, [], ◌++◌, IsFalse, Some}
+-- Laws of a step and of a run: what they read, and how a run halts.
+use Rattle.std.specs.Prelude.{◌≡◌, ℕ, ◌%◌, ◌^◌, ◌<◌, List, [], ◌++◌, Some}
 use Rattle.rv_isa.specs.declared.fault.Fault.TheVariants.{InputEnd}
-use Rattle.page_core.specs.Memory.{contains, Within, Agree}
+use Rattle.page_core.specs.Memory.{Within, Agree}
 use Rattle.host_calls.specs.declared.call.AssumeCall.{AssumeCall}
 use Rattle.rv_step.specs.Machine.{State, Event, Went, Halted, Faulted, full, step_of, foot_of, step_cost}
 use Rattle.rv_step.specs.Runs.{after, spent}
@@ -11,6 +11,7 @@ use Rattle.rv_isa.specs.Registers.{AreRegisters}
 pub record IsReady (s : State) : Type 0 where
   pub aligned : s.pc % 4 ≡ 0
   pub registers : AreRegisters s.x
+  pub is_word : s.pc < 2 ^ 32
 
 -- what one run has beside another: words still to come, and the journal and calls so far
 pub record Beside : Type 0 where
@@ -42,18 +43,6 @@ StepReadsItsFoot =
     → Within (foot_of s) pages
     → (step_of s ≡ Faulted InputEnd → more.words ≡ [])
     → (foot_of t ≡ foot_of s) × (step_cost t ≡ step_cost s) × AlikeEvents pages more (step_of s) (step_of t)
-
--- A step leaves the memory outside its footprint as it is.
-abbrev pub StepWritesItsFoot : Type 0
-StepWritesItsFoot =
-    (s t : State) (a : ℕ)
-    → step_of s ≡ Went t
-    → IsFalse (contains (foot_of s) (a / 1024))
-    → t.memory a ≡ s.memory a
-
--- A step from a ready state leads to one.
-abbrev pub StepKeepsReady : Type 0
-StepKeepsReady = (s t : State) → IsReady s → step_of s ≡ Went t → IsReady t
 
 -- Over pages that all footprints lie in, a run does what the other does.
 abbrev pub RunReadsItsFeet : Type 0

@@ -138,11 +138,15 @@ unfoldable pub pages_of_all : List (ℕ × ℕ) → List ℕ
 pages_of_all [] = []
 pages_of_all (r ∷ rs) = pages_of r.0 r.1 ++ pages_of_all rs
 
--- the register page, the code page unless the fetch faults, and the data pages ascending, each once
+-- the footprint of an act at a pc: the register page, the code page unless the fetch faults, and the data pages
+-- ascending, each page once
+abbrev pub foot_at : ℕ → Act → List ℕ
+foot_at pc a =
+    cond (leb top pc) (262143 ∷ [])
+    (262143 ∷ pc / 1024 ∷ ascending (without (pc / 1024) (pages_of_all (data_of a))))
+
 unfoldable pub foot_of : State → List ℕ
-foot_of s =
-    cond (leb top s.pc) (262143 ∷ [])
-    (262143 ∷ s.pc / 1024 ∷ without (s.pc / 1024) (ascending (pages_of_all (data_of (act s)))))
+foot_of s = foot_at s.pc (act s)
 
 abbrev pub cost_of_act : Act → ℕ
 cost_of_act (Sets pc rd v) = 1

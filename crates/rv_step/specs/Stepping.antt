@@ -1,74 +1,87 @@
--- What the answer of a step over a bus says of the machine before and after it.
-use Rattle.std.specs.Prelude.{◌≡◌, ℕ, ◌+◌, ◌/◌, ◌<◌, ◌≤◌, Bool, true, false, cond, leb, eqb, List, [], ◌∷◌, Option, Some, None, Result, Ok, Err}
-use Rattle.rv_isa.specs.declared.instr.AluOp.{AluOp}
-use Rattle.rv_isa.specs.declared.instr.AluOp.TheVariants.{Add}
-use Rattle.rv_isa.specs.declared.instr.Instr.{Instr}
-use Rattle.rv_isa.specs.declared.instr.Instr.TheVariants.{Lui, AluImm, Ecall}
-use Rattle.rv_isa.specs.Registers.{register}
-use Rattle.rv_isa.specs.Rows.{decode_of}
-use Rattle.host_calls.specs.declared.call.Call.TheVariants.{Halt}
-use Rattle.page_core.specs.Memory.{top, bytes, number_of}
+-- What a step over a bus answers, and what it leaves.
+use Rattle.std.specs.Prelude.{◌≡◌, ℕ, ◌+◌, ◌/◌, ◌<◌, Bool, cond, leb, List, [], ◌∷◌, drop, IsTrue, Option, Some, None, Result, Ok, Err}
+use Rattle.rv_isa.specs.declared.fault.Fault.{Fault}
+use Rattle.page_core.specs.Memory.{top}
 use Rattle.rv_step.specs.declared.act.Act.{Act}
-use Rattle.rv_step.specs.declared.act.Act.TheVariants.{Sets, Does}
-use Rattle.rv_step.specs.Machine.{State, Went, Halted, Faulted, step_of, foot_of, first_closed}
-use Rattle.rv_step.specs.Laws.{Beside}
+use Rattle.rv_step.specs.declared.act.Act.TheVariants.{Sets, Loads, Stores, Does, Faults}
+use Rattle.rv_step.specs.Machine.{State, Event, Went, Halted, Faulted, act, step_of, foot_of, step_cost, first_closed}
+use Rattle.rv_step.specs.Tapes.{Tape, Log}
 use Rattle.rv_step.specs.declared.place.Core.{Core}
-use Rattle.rv_step.specs.declared.stepping.Event.{Event}
+use Rattle.rv_step.specs.declared.looking.Looked.{Looked}
+use Rattle.rv_step.specs.declared.stepping.Event.{Event as StepEvent}
 use Rattle.rv_step.specs.declared.stepping.Event.TheVariants as E
 use Rattle.rv_step.specs.declared.stepping.StepStop.{StepStop}
 use Rattle.rv_step.specs.declared.stepping.StepStop.TheVariants as S
-use Rattle.rv_step.specs.declared.known.Known.{Known}
-use Rattle.rv_step.specs.declared.known.Known.TheVariants as K
 
--- the machine's state, on a memory, with the words to come and what was said so far
-abbrev pub state_at : Core → (ℕ → ℕ) → Beside → State
-state_at core memory beside =
-    record { pc = core.pc; x = core.regs; memory = memory; words = beside.words; journal = beside.journal; calls = beside.calls }
+-- each byte of a range lies in a page of these
+abbrev pub Opens : (ℕ → Bool) → ℕ → ℕ → Type 0
+Opens opens a n = (k : ℕ) → k < n → IsTrue (opens ((a + k) / 1024))
 
+-- and each range does
+abbrev pub AllOpen : (ℕ → Bool) → List (ℕ × ℕ) → Type 0
+AllOpen opens [] = Unit {0}
+AllOpen opens (r ∷ rs) = Opens opens r.0 r.1 × AllOpen opens rs
+
+-- the machine's state, on a memory
+abbrev pub state_at : Core → (ℕ → ℕ) → Tape → Log → State
+state_at core memory tape log =
+    record { pc = core.pc; x = core.regs; memory = memory; words = drop tape.used tape.words; journal = log.journal; calls = log.calls }
+
+-- the register that an act writes is one of the 32
+abbrev pub HasTarget : Act → Type 0
+HasTarget (Sets pc rd v) = rd < 32
+HasTarget (Loads op rd a) = rd < 32
+HasTarget (Stores op a v) = Unit {0}
+HasTarget (Does call) = Unit {0}
+HasTarget (Faults fault) = Unit {0}
+
+-- ---- looking
 -- the pages of a fetch: the register page, and the code page where the pc is in range
 abbrev pub fetch_foot : State → List ℕ
 fetch_foot s = cond (leb top s.pc) (262143 ∷ []) (262143 ∷ s.pc / 1024 ∷ [])
 
--- the instructions that are built: LUI, ADDI, and ECALL with 0 in x17
-abbrev pub is_add : AluOp → Bool
-is_add Add = true
-is_add op = false
+-- a value where no page is closed
+abbrev pub unless_closed : {A : Type 0} → Option ℕ → A → Result A ℕ
+unless_closed (Some page) a = Err page
+unless_closed None a = Ok a
 
-abbrev pub is_known : Instr → ℕ → Bool
-is_known (Lui rd imm) number = true
-is_known (AluImm op rd rs1 imm) number = is_add op
-is_known Ecall number = eqb number 0
-is_known instr number = false
+-- the act, or the first page of the fetch that isn't open
+abbrev pub fetched : (ℕ → Bool) → State → Result Act ℕ
+fetched opens s = unless_closed (first_closed opens (fetch_foot s)) (act s)
 
-abbrev pub is_built : Option Instr → ℕ → Bool
-is_built None number = false
-is_built (Some instr) number = is_known instr number
+abbrev pub fault_in : Event → Option Fault
+fault_in (Went t) = None
+fault_in (Halted code) = None
+fault_in (Faulted fault) = Some fault
 
--- so the fetched word is one of these, or is none
-abbrev pub built : State → Bool
-built s = is_built (decode_of (number_of (bytes s.memory s.pc 4))) (register s.x 17)
+abbrev pub act_fault : Act → Option Fault
+act_fault (Sets pc rd v) = None
+act_fault (Loads op rd a) = None
+act_fault (Stores op a v) = None
+act_fault (Does call) = None
+act_fault (Faults fault) = Some fault
 
--- the act of an instruction that is built
-abbrev pub known_act : ℕ → Known → Act
-known_act pc (K.Sets rd value) = Sets (pc + 4) rd value
-known_act pc (K.Halts code) = Does (Halt code)
+-- the footprint, cost and fault of the step, or the first page of the fetch that isn't open
+abbrev pub looked_of : (ℕ → Bool) → State → Result Looked ℕ
+looked_of opens s =
+    unless_closed (first_closed opens (fetch_foot s)) (record { foot = foot_of s; cost = step_cost s; fault = fault_in (step_of s) })
 
--- the register that it writes is one of the 32
-abbrev pub HasRegister : Known → Type 0
-HasRegister (K.Sets rd value) = rd < 32
-HasRegister (K.Halts code) = Unit {0}
+-- ---- stepping
+-- this is the act of a step whose footprint is open
+pub record IsNext (opens : ℕ → Bool) (s : State) (a : Act) : Type 0 where
+  pub is : a ≡ act s
+  pub no_closed : first_closed opens (foot_of s) ≡ None
 
--- an instruction that is built touches what its fetch touches, and these pages are open
-pub record IsDone (opens : ℕ → Bool) (s : State) : Type 0 where
-  pub in_range : s.pc < top
-  pub is_built : built s ≡ true
-  pub foot : foot_of s ≡ fetch_foot s
-  pub open_foot : first_closed opens (foot_of s) ≡ None
+-- the answer that an event gives, where the step leads from s to t; want of memory may always be one
+abbrev pub Answers : Event → State → State → Result StepEvent StepStop → Type 0
+Answers event s t (Ok E.Went) = event ≡ Went t
+Answers event s t (Ok (E.Halted code)) = (event ≡ Halted code) × (t ≡ s)
+Answers event s t (Err (S.Miss page)) = ⊥
+Answers event s t (Err (S.Fault fault)) = (event ≡ Faulted fault) × (t ≡ s)
+Answers event s t (Err S.Memory) = t ≡ s
 
--- from s the step over these open pages leads to t with this answer
-abbrev pub IsStepOf : (ℕ → Bool) → State → State → Result Event StepStop → Type 0
-IsStepOf opens s t (Ok E.Went) = IsDone opens s × (step_of s ≡ Went t)
-IsStepOf opens s t (Ok (E.Halted code)) = IsDone opens s × (step_of s ≡ Halted code) × (t ≡ s)
-IsStepOf opens s t (Err (S.Miss page)) = (first_closed opens (fetch_foot s) ≡ Some page) × (t ≡ s)
-IsStepOf opens s t (Err (S.Fault fault)) = (first_closed opens (fetch_foot s) ≡ None) × (top ≤ s.pc) × (step_of s ≡ Faulted fault) × (t ≡ s)
-IsStepOf opens s t (Err S.NotBuilt) = (first_closed opens (fetch_foot s) ≡ None) × (s.pc < top) × (built s ≡ false) × (t ≡ s)
+-- from s the step over these open pages leads to t with this answer: it misses the first page of the footprint that
+-- isn't open, and where all are open it answers what the step is
+abbrev pub IsStepOf : (ℕ → Bool) → State → State → Result StepEvent StepStop → Type 0
+IsStepOf opens s t (Err (S.Miss page)) = (first_closed opens (foot_of s) ≡ Some page) × (t ≡ s)
+IsStepOf opens s t answer = (first_closed opens (foot_of s) ≡ None) × Answers (step_of s) s t answer

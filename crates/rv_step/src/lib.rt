@@ -1,17 +1,36 @@
 //! One step of the machine over any bus, the uncut run, and the laws of both.
 #![tactic(auto)]
 
+mod access;
 mod act;
+mod acting;
 mod bus;
-mod known;
+mod doing;
+#[cfg(test)]
+mod fault_tests;
+#[cfg(test)]
+mod foot_tests;
 mod laws;
+mod looking;
+mod open_pages;
 mod place;
+mod run_log;
 mod stepping;
+mod tape;
+#[cfg(test)]
+mod test_machine;
 #[cfg(test)]
 mod tests;
 
 pub use act::Act;
 pub use bus::Bus;
-pub use laws::{run_reads_its_feet, step_keeps_ready, step_reads_its_foot, step_writes_its_foot};
+pub use laws::{
+    acts_are_sound, run_reads_its_feet, step_halts_with_word, step_is_small, step_keeps,
+    step_reads_its_foot,
+};
+pub use looking::{Looked, look};
+pub use open_pages::OpenPages;
 pub use place::Core;
+pub use run_log::RunLog;
 pub use stepping::{Event, StepStop, step};
+pub use tape::WordTape;

@@ -1,16 +1,18 @@
-ghost use Rattle.std.specs.Prelude.{◌≡◌, ◌%◌};
-ghost use Rattle.rv_step.specs.Laws.{Beside};
-ghost use Rattle.rv_step.specs.Stepping.{state_at, IsStepOf};
+ghost use Rattle.std.specs.Prelude.{◌≡◌, ◌%◌, Some, IfOk, IfErr, OnErr};
+ghost use Rattle.rv_step.specs.Machine.{first_closed, foot_of};
+ghost use Rattle.rv_step.specs.Tapes.{Log};
+ghost use Rattle.rv_step.specs.Stepping.{state_at, HasTarget, IsNext, IsStepOf};
+ghost use Rattle.rv_step.specs.declared.stepping.StepStop.TheVariants as S;
 
+use crate::act::Act;
 use crate::bus::Bus;
-use crate::known::{Known, decode_known};
+use crate::doing::{load, perform, store};
+use crate::looking::{fetch, footprint};
 use crate::place::Core;
+use crate::run_log::RunLog;
+use crate::tape::WordTape;
 use rv_isa::Fault;
-
-// The number of the register page, and its address, at and above which a guest reaches nothing.
-const REGISTER_PAGE: u32 = 262_143;
-
-const TOP: u32 = 0x0FFF_FC00;
+use std::alloc::AllocError;
 
 /// What a step did.
 #[derive(Clone, Copy, Debug, PartialEq, Eq)]
@@ -21,41 +23,89 @@ pub enum Event {
     Halted(u32),
 }
 
-/// Why a step was not done. The core is then as before.
+/// Why a step was not done. The core, the bus, the tape and the log are then as before.
 #[derive(Clone, Copy, Debug, PartialEq, Eq)]
 pub enum StepStop {
-    /// The first of the register page and the code page of a fetch in range that isn't open.
+    /// The first page of the footprint that isn't open.
     Miss(u32),
-    /// No such page is missing, and the fetch faults.
+    /// All pages of the footprint are open, and the step faults.
     Fault(Fault),
-    /// Both pages are open, and the fetched word is none of LUI, ADDI and ECALL with 0 in x17.
-    NotBuilt,
+    /// There was no memory.
+    Memory,
 }
 
-/// One step, of LUI, ADDI or ECALL with 0 in x17. The pc is a multiple of 4. It takes no memory.
-pub fn step<B: Bus>(core: &mut Core, bus: &B) -> Result<Event, StepStop>
+impl From<AllocError> for StepStop {
+    ghost from_gives = { λ _ stop. stop ≡ S.Memory };
+
+    fn from(_error: AllocError) -> StepStop {
+        StepStop::Memory
+    }
+}
+
+// The first of these pages that isn't open.
+fn first_missing<B: Bus>(bus: &B, pages: &[u32]) -> Option<u32>
+    ensures { result ≡ first_closed (B.opens bus.now) pages.now }
+{
+    for page in pages {
+        if !bus.is_open(*page) {
+            return Some(*page);
+        }
+    }
+    None
+}
+
+// The act of the next step, or the first page of its footprint that isn't open.
+fn next_act<B: Bus>(core: &Core, bus: &B, tape: &WordTape) -> Result<Act, u32>
+    requires { core.now.pc % 4 ≡ 0 }
+    ensures missed { (log : Log) → IfErr result (λ page. first_closed (B.opens bus.now) (foot_of (state_at core.now (B.byte_at bus.now) tape.now log)) ≡ Some page) }
+    ensures next { (log : Log) → IfOk result (λ act. IsNext (B.opens bus.now) (state_at core.now (B.byte_at bus.now) tape.now log) act) }
+    ensures register { IfOk result (λ act. HasTarget act) }
+{
+    let act = fetch(core, bus, tape)?;
+    let foot = footprint(core.pc, &act);
+    match first_missing(bus, foot.pages()) {
+        Some(page) => Err(page),
+        None => Ok(act),
+    }
+}
+
+/// One step: fetches the word at the pc, which is a multiple of 4, decodes it, tests it for faults and
+/// does it. A halt changes nothing.
+///
+/// Which pages of the bus are open and the words of the tape never change. A refusal leaves the core,
+/// the bytes of the bus, the tape and the log as before, since what needs memory is taken first.
+pub fn step<B: Bus>(
+    core: &mut Core,
+    bus: &mut B,
+    tape: &mut WordTape,
+    log: &mut RunLog,
+) -> Result<Event, StepStop>
     requires { core.old.pc % 4 ≡ 0 }
     ensures aligned { core.new.pc % 4 ≡ 0 }
-    ensures answer { (beside : Beside) → IsStepOf (B.opens bus.now) (state_at core.old (B.byte_at bus.now) beside) (state_at core.new (B.byte_at bus.now) beside) result }
+    ensures same_pages { B.opens bus.new ≡ B.opens bus.old }
+    ensures same_words { tape.new.words ≡ tape.old.words }
+    ensures answer { IsStepOf (B.opens bus.old) (state_at core.old (B.byte_at bus.old) tape.old log.old) (state_at core.new (B.byte_at bus.new) tape.new log.new) result }
+    ensures refused { OnErr result ((core.new ≡ core.old) × (B.byte_at bus.new ≡ B.byte_at bus.old) × (tape.new ≡ tape.old) × (log.new ≡ log.old)) }
 {
-    let pc = core.pc;
-    if !bus.is_open(REGISTER_PAGE) {
-        return Err(StepStop::Miss(REGISTER_PAGE));
-    }
-    if pc >= TOP {
-        return Err(StepStop::Fault(Fault::BadAddress(pc)));
-    }
-    let page = pc / 1024;
-    if !bus.is_open(page) {
-        return Err(StepStop::Miss(page));
-    }
-    match decode_known(bus.load_word(pc), core) {
-        Some(Known::Sets { rd, value }) => {
+    let act = match next_act(core, bus, tape) {
+        Ok(act) => act,
+        Err(page) => return Err(StepStop::Miss(page)),
+    };
+    match act {
+        Act::Sets { pc, rd, value } => {
             core.regs.set(rd, value);
-            core.pc = pc + 4;
+            core.pc = pc;
             Ok(Event::Went)
         }
-        Some(Known::Halts(code)) => Ok(Event::Halted(code)),
-        None => Err(StepStop::NotBuilt),
+        Act::Loads { op, rd, address } => {
+            load(op, rd, address, core, bus);
+            Ok(Event::Went)
+        }
+        Act::Stores { op, address, value } => {
+            store(op, address, value, core, bus)?;
+            Ok(Event::Went)
+        }
+        Act::Does(call) => perform(call, core, bus, tape, log),
+        Act::Faults(fault) => Err(StepStop::Fault(fault)),
     }
 }

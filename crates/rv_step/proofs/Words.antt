@@ -1,0 +1,263 @@
+-- Bytes, halfwords and words of a memory.
+use Rattle.std.proofs.Common.{◌≡◌, ℕ, zero, suc, ◌+◌, ◌-◌, ◌*◌, ◌/◌, ◌%◌, ◌<◌, ◌≤◌, List, [], ◌∷◌, ◌++◌, length, get_or, take, set, refl, sym, ap, ap₂, ◌∙◌, arith, inl, inr, ◌⊎◌, ⊎_elim, length-append, length-set, get_or-set_same, get_or-set_other}
+use Rattle.std.specs.Prelude.{All}
+use Rattle.std.specs.Int.{w16, w32, to_le_bytes, from_le_bytes}
+use Rattle.std.proofs.lemmas.Nat.{le_bytes_4}
+use Rattle.std.proofs.lemmas.Bool.Decides.{leb_tells}
+use Rattle.std.proofs.lemmas.List.{get_or-append-add, length-take-le}
+use Rattle.std.proofs.Math.ListN.{get_or-append}
+use Rattle.std.proofs.Math.Seq.{take-suc, take-suc-set}
+use Rattle.page_core.specs.Memory.{bytes, put, number_of, bytes_of, bytes_of_words}
+use Rattle.page_core.proofs.Bytes.{length-bytes, length-bytes_of_words, get_or-bytes, put-outside, put-inside}
+
+pub one : (m : ℕ → ℕ) (a : ℕ) → number_of (bytes m a 1) ≡ m a
+unfolding bytes number_of
+one m a = omega arith
+
+pub two : (m : ℕ → ℕ) (a : ℕ) → bytes m a 2 ≡ m a ∷ m (a + 1) ∷ []
+unfolding bytes
+two m a = refl
+
+pub four : (m : ℕ → ℕ) (a : ℕ) → bytes m a 4 ≡ m a ∷ m (a + 1) ∷ m (a + 2) ∷ m (a + 3) ∷ []
+unfolding bytes
+four m a =
+    let k : a + 1 + 1 ≡ a + 2 = omega arith in
+    let l : a + 1 + 1 + 1 ≡ a + 3 = omega arith in
+    ap₂ (λ i j. m a ∷ m (a + 1) ∷ m i ∷ m j ∷ []) k l
+
+read_four : (b0 b1 b2 b3 : ℕ) → from_le_bytes w32 (b0 ∷ b1 ∷ b2 ∷ b3 ∷ []) ≡ number_of (b0 ∷ b1 ∷ b2 ∷ b3 ∷ [])
+unfolding number_of
+read_four b0 b1 b2 b3 = omega arith
+
+read_two : (b0 b1 : ℕ) → from_le_bytes w16 (b0 ∷ b1 ∷ []) ≡ number_of (b0 ∷ b1 ∷ [])
+unfolding number_of
+read_two b0 b1 = omega arith
+
+pub small_in : (bs : List ℕ) → All (λ b. b < 256) bs → (i : ℕ) → get_or bs i 0 < 256
+small_in bs all i = ⊎_elim (λ t. omega (arith, past bs i t.1)) (λ t. all i 0 t.1) (leb_tells (length bs) i)
+  where
+    past : (bs : List ℕ) (i : ℕ) → length bs ≤ i → get_or bs i 0 ≡ 0
+    past [] i h = refl
+    past (b ∷ bs) zero h = absurd (omega arith)
+    past (b ∷ bs) (suc i) h = past bs i (omega arith)
+
+-- the bytes of a word that was read
+pub word_back : (m : ℕ → ℕ) (a w : ℕ) → All (λ b. b < 256) (bytes m a 4) → w ≡ number_of (bytes m a 4) → to_le_bytes w32 w ≡ bytes m a 4
+word_back m a w small is =
+    le_bytes_4 (bytes m a 4) w (length-bytes m a 4) (small_in (bytes m a 4) small)
+    (is ∙ ap number_of (four m a) ∙ sym (read_four (m a) (m (a + 1)) (m (a + 2)) (m (a + 3))) ∙ ap (from_le_bytes w32) (sym (four m a)))
+
+-- a byte of the word in which it lies
+pub byte_in : (m : ℕ → ℕ) (a : ℕ) → get_or (bytes m (a / 4 * 4) 4) (a % 4) 0 ≡ m a
+byte_in m a = get_or-bytes m (a / 4 * 4) 4 (a % 4) (omega arith) ∙ ap m (omega arith)
+
+next_in : (m : ℕ → ℕ) (a : ℕ) → a % 2 ≡ 0 → get_or (bytes m (a / 4 * 4) 4) (a % 4 + 1) 0 ≡ m (a + 1)
+next_in m a even = get_or-bytes m (a / 4 * 4) 4 (a % 4 + 1) (omega arith) ∙ ap m (omega arith)
+
+pub half_in : (m : ℕ → ℕ) (a : ℕ) (bs : List ℕ) → a % 2 ≡ 0 → bs ≡ bytes m (a / 4 * 4) 4
+    → from_le_bytes w16 (get_or bs (a % 4) 0 ∷ get_or bs (a % 4 + 1) 0 ∷ []) ≡ number_of (bytes m a 2)
+half_in m a bs even is =
+    ap₂ (λ i j. from_le_bytes w16 (i ∷ j ∷ [])) (ap (λ xs. get_or xs (a % 4) 0) is ∙ byte_in m a) (ap (λ xs. get_or xs (a % 4 + 1) 0) is ∙ next_in m a even)
+    ∙ read_two (m a) (m (a + 1))
+    ∙ ap number_of (sym (two m a))
+
+-- ---- writing a part of a word
+-- bytes that differ from the memory's in a part alone are written as that part
+patched_at : (m : ℕ → ℕ) (b r : ℕ) (cs vs : List ℕ) → r + length vs ≤ length cs
+    → ((j : ℕ) → j < length vs → get_or cs (r + j) 0 ≡ get_or vs j 0)
+    → ((j : ℕ) → j < length cs → (j < r) ⊎ (r + length vs ≤ j) → get_or cs j 0 ≡ m (b + j))
+    → (k : ℕ) → put m b cs k ≡ put m (b + r) vs k
+patched_at m b r cs vs fits same others k =
+    ⊎_elim (λ low. ⊎_elim (λ high. put-outside m b cs k (inr high.1) ∙ sym (put-outside m (b + r) vs k (inr (omega (arith, high.1, fits))))) (λ high. inside low.1 high.1) (leb_tells (b + length cs) k))
+    (λ low. put-outside m b cs k (inl low.1) ∙ sym (put-outside m (b + r) vs k (inl (omega (arith, low.1)))))
+    (leb_tells b k)
+  where
+    kept : b ≤ k → k < b + length cs → (k - b < r) ⊎ (r + length vs ≤ k - b) → put m b cs k ≡ m k
+    kept low high away =
+        ap (put m b cs) (omega arith) ∙ put-inside m b cs (k - b) (omega arith) ∙ others (k - b) (omega arith) away ∙ ap m (omega arith)
+
+    written : b ≤ k → k < b + length cs → b + r ≤ k → k < b + r + length vs → put m b cs k ≡ put m (b + r) vs k
+    written low high from to =
+        ap (put m b cs) (omega arith) ∙ put-inside m b cs (k - b) (omega arith)
+        ∙ ap (λ (j : ℕ). get_or cs j 0) (omega arith) ∙ same (k - (b + r)) (omega arith)
+        ∙ sym (put-inside m (b + r) vs (k - (b + r)) (omega arith)) ∙ ap (put m (b + r) vs) (omega arith)
+
+    inside : b ≤ k → k < b + length cs → put m b cs k ≡ put m (b + r) vs k
+    inside low high =
+        ⊎_elim
+        (λ from. ⊎_elim
+        (λ past. kept low high (inr (omega (arith, past.1))) ∙ sym (put-outside m (b + r) vs k (inr past.1)))
+        (λ to. written low high from.1 to.1) (leb_tells (b + r + length vs) k))
+        (λ before. kept low high (inl (omega (arith, before.1))) ∙ sym (put-outside m (b + r) vs k (inl before.1)))
+        (leb_tells (b + r) k)
+
+-- a byte of a word
+pub byte_patched : (m : ℕ → ℕ) (a v : ℕ) → put m (a / 4 * 4) (set (bytes m (a / 4 * 4) 4) (a % 4) v) ≡ put m a (v ∷ [])
+byte_patched m a v =
+    λ i k. (patched_at m b r (set old r v) (v ∷ []) (omega (arith, size, length-set old r v)) same others k ∙ ap (λ (c : ℕ). put m c (v ∷ []) k) whole) i
+  where
+    whole : a / 4 * 4 + a % 4 ≡ a
+    whole = omega arith
+
+    b : ℕ
+    b = a / 4 * 4
+
+    r : ℕ
+    r = a % 4
+
+    old : List ℕ
+    old = bytes m (a / 4 * 4) 4
+
+    size : length (bytes m (a / 4 * 4) 4) ≡ 4
+    size = length-bytes m (a / 4 * 4) 4
+
+    same : (j : ℕ) → j < length (v ∷ []) → get_or (set old r v) (r + j) 0 ≡ get_or (v ∷ []) j 0
+    same zero h = ap (λ (n : ℕ). get_or (set old r v) n 0) (omega arith) ∙ get_or-set_same old r v 0 (omega (arith, size))
+    same (suc j) h = absurd (omega arith)
+
+    others : (j : ℕ) → j < length (set old r v) → (j < r) ⊎ (r + length (v ∷ []) ≤ j) → get_or (set old r v) j 0 ≡ m (b + j)
+    others j h away =
+        get_or-set_other old r j v 0 (⊎_elim (λ t. omega (arith, t)) (λ t. omega (arith, t)) away)
+        ∙ get_or-bytes m b 4 j (omega (arith, h, size, length-set old r v))
+
+-- two bytes of a word
+pub half_patched : (m : ℕ → ℕ) (a v w : ℕ) → a % 2 ≡ 0
+    → put m (a / 4 * 4) (set (set (bytes m (a / 4 * 4) 4) (a % 4) v) (a % 4 + 1) w) ≡ put m a (v ∷ w ∷ [])
+half_patched m a v w even =
+    λ i k. (patched_at m b r new (v ∷ w ∷ []) (omega (arith, sizes)) same others k ∙ ap (λ (c : ℕ). put m c (v ∷ w ∷ []) k) whole) i
+  where
+    whole : a / 4 * 4 + a % 4 ≡ a
+    whole = omega arith
+
+    b : ℕ
+    b = a / 4 * 4
+
+    r : ℕ
+    r = a % 4
+
+    old : List ℕ
+    old = bytes m (a / 4 * 4) 4
+
+    new : List ℕ
+    new = set (set (bytes m (a / 4 * 4) 4) (a % 4) v) (a % 4 + 1) w
+
+    size : length (bytes m (a / 4 * 4) 4) ≡ 4
+    size = length-bytes m (a / 4 * 4) 4
+
+    sizes : length (set (set (bytes m (a / 4 * 4) 4) (a % 4) v) (a % 4 + 1) w) ≡ 4
+    sizes = length-set (set old r v) (r + 1) w ∙ length-set old r v ∙ size
+
+    same : (j : ℕ) → j < length (v ∷ w ∷ []) → get_or new (r + j) 0 ≡ get_or (v ∷ w ∷ []) j 0
+    same zero h =
+        ap (λ (n : ℕ). get_or new n 0) (omega arith) ∙ get_or-set_other (set old r v) (r + 1) r w 0 (omega arith)
+        ∙ get_or-set_same old r v 0 (omega (arith, size))
+    same (suc zero) h = get_or-set_same (set old r v) (r + 1) w 0 (omega (arith, size, length-set old r v))
+    same (suc (suc j)) h = absurd (omega arith)
+
+    others : (j : ℕ) → j < length new → (j < r) ⊎ (r + length (v ∷ w ∷ []) ≤ j) → get_or new j 0 ≡ m (b + j)
+    others j h away =
+        get_or-set_other (set old r v) (r + 1) j w 0 (⊎_elim (λ t. omega (arith, t)) (λ t. omega (arith, t)) away)
+        ∙ get_or-set_other old r j v 0 (⊎_elim (λ t. omega (arith, t)) (λ t. omega (arith, t)) away)
+        ∙ get_or-bytes m b 4 j (omega (arith, h, sizes))
+
+-- the bytes of the word that four bytes are
+explicit : (b0 b1 b2 b3 : ℕ) → b0 < 256 → b1 < 256 → b2 < 256 → b3 < 256 → bytes_of 4 (from_le_bytes w32 (b0 ∷ b1 ∷ b2 ∷ b3 ∷ [])) ≡ b0 ∷ b1 ∷ b2 ∷ b3 ∷ []
+unfolding bytes_of
+explicit b0 b1 b2 b3 h0 h1 h2 h3 =
+    let w : ℕ = from_le_bytes w32 (b0 ∷ b1 ∷ b2 ∷ b3 ∷ []) in
+    let e0 : w % 256 ≡ b0 = omega arith in
+    let e1 : w / 256 % 256 ≡ b1 = omega arith in
+    let e2 : w / 256 / 256 % 256 ≡ b2 = omega arith in
+    let e3 : w / 256 / 256 / 256 % 256 ≡ b3 = omega arith in
+    λ i. e0 i ∷ e1 i ∷ e2 i ∷ e3 i ∷ []
+
+pub word_of : (bs : List ℕ) (w : ℕ) → length bs ≡ 4 → ((i : ℕ) → get_or bs i 0 < 256) → w ≡ from_le_bytes w32 bs → bytes_of 4 w ≡ bs
+word_of [] w size small is = absurd (omega (arith, size))
+word_of (b0 ∷ []) w size small is = absurd (omega (arith, size))
+word_of (b0 ∷ b1 ∷ []) w size small is = absurd (omega (arith, size))
+word_of (b0 ∷ b1 ∷ b2 ∷ []) w size small is = absurd (omega (arith, size))
+word_of (b0 ∷ b1 ∷ b2 ∷ b3 ∷ []) w size small is = ap (bytes_of 4) is ∙ explicit b0 b1 b2 b3 (small 0) (small 1) (small 2) (small 3)
+word_of (b0 ∷ b1 ∷ b2 ∷ b3 ∷ b4 ∷ bs) w size small is = absurd (omega (arith, size))
+
+pub one_byte : (v : ℕ) → bytes_of 1 v ≡ v % 256 ∷ []
+unfolding bytes_of
+one_byte v = refl
+
+pub two_bytes : (v : ℕ) → bytes_of 2 (v % 65536) ≡ bytes_of 2 v
+unfolding bytes_of
+two_bytes v = let e : v % 65536 % 256 ≡ v % 256 = omega arith in let f : v % 65536 / 256 % 256 ≡ v / 256 % 256 = omega arith in λ i. e i ∷ f i ∷ []
+
+-- ---- ranges
+pub bytes_on : (m : ℕ → ℕ) (a k : ℕ) → bytes m a (suc k) ≡ bytes m a k ++ m (a + k) ∷ []
+unfolding bytes
+bytes_on m a zero = ap (λ (n : ℕ). m n ∷ []) (omega arith)
+bytes_on m a (suc k) = ap (λ (bs : List ℕ). m a ∷ bs) (bytes_on m (a + 1) k ∙ ap (λ (n : ℕ). bytes m (a + 1) k ++ m n ∷ []) (omega arith))
+
+put_twice_at : (m : ℕ → ℕ) (a : ℕ) (xs ys : List ℕ) (k : ℕ) → put (put m a xs) (a + length xs) ys k ≡ put m a (xs ++ ys) k
+put_twice_at m a xs ys k =
+    ⊎_elim
+    (λ low. ⊎_elim
+    (λ late. ⊎_elim
+    (λ past. put-outside (put m a xs) (a + length xs) ys k (inr past.1) ∙ put-outside m a xs k (inr late.1) ∙ sym (put-outside m a (xs ++ ys) k (inr (omega (arith, past.1, sizes)))))
+    (λ within.
+    ap (put (put m a xs) (a + length xs) ys) (omega arith) ∙ put-inside (put m a xs) (a + length xs) ys (k - (a + length xs)) (omega arith)
+    ∙ sym (get_or-append-add xs ys (k - (a + length xs)) 0)
+    ∙ sym (put-inside m a (xs ++ ys) (length xs + (k - (a + length xs))) (omega (arith, sizes))) ∙ ap (put m a (xs ++ ys)) (omega arith))
+    (leb_tells (a + length xs + length ys) k))
+    (λ early.
+    put-outside (put m a xs) (a + length xs) ys k (inl early.1)
+    ∙ ap (put m a xs) (omega arith) ∙ put-inside m a xs (k - a) (omega arith) ∙ sym (get_or-append xs ys 0 (k - a) (omega arith))
+    ∙ sym (put-inside m a (xs ++ ys) (k - a) (omega (arith, sizes))) ∙ ap (put m a (xs ++ ys)) (omega arith))
+    (leb_tells (a + length xs) k))
+    (λ low. put-outside (put m a xs) (a + length xs) ys k (inl (omega (arith, low.1))) ∙ put-outside m a xs k (inl low.1) ∙ sym (put-outside m a (xs ++ ys) k (inl low.1)))
+    (leb_tells a k)
+  where
+    sizes : length (xs ++ ys) ≡ length xs + length ys
+    sizes = length-append xs ys
+
+pub put_twice : (m : ℕ → ℕ) (a : ℕ) (xs ys : List ℕ) → put (put m a xs) (a + length xs) ys ≡ put m a (xs ++ ys)
+put_twice m a xs ys = λ i k. put_twice_at m a xs ys k i
+
+words_on : (ws : List ℕ) (w : ℕ) → bytes_of_words (ws ++ w ∷ []) ≡ bytes_of_words ws ++ bytes_of 4 w
+unfolding bytes_of_words bytes_of
+words_on [] w =
+    let e : w / 65536 ≡ w / 256 / 256 = omega arith in
+    let f : w / 16777216 ≡ w / 256 / 256 / 256 = omega arith in
+    λ i. w % 256 ∷ w / 256 % 256 ∷ e i % 256 ∷ f i % 256 ∷ []
+words_on (v ∷ ws) w = ap (λ bs. v % 256 ∷ v / 256 % 256 ∷ v / 65536 % 256 ∷ v / 16777216 % 256 ∷ bs) (words_on ws w)
+
+-- one more word after k
+pub word_put : (m n p : ℕ → ℕ) (a at k w : ℕ) (ws : List ℕ) → k < length ws → at ≡ a + 4 * k → w ≡ get_or ws k 0
+    → n ≡ put m a (bytes_of_words (take k ws)) → p ≡ put n at (bytes_of 4 w) → p ≡ put m a (bytes_of_words (take (suc k) ws))
+word_put m n p a at k w ws within there is before after =
+    let size : length (bytes_of_words (take k ws)) ≡ 4 * k = length-bytes_of_words (take k ws) ∙ ap (λ (j : ℕ). 4 * j) (length-take-le k ws (omega arith)) in
+    after ∙ ap₂ (λ (q : ℕ → ℕ) (b : ℕ). put q b (bytes_of 4 w)) before (there ∙ ap (λ (j : ℕ). a + j) (sym size))
+    ∙ put_twice m a (bytes_of_words (take k ws)) (bytes_of 4 w)
+    ∙ ap (put m a) (sym (words_on (take k ws) w) ∙ ap (λ (v : ℕ). bytes_of_words (take k ws ++ v ∷ [])) is ∙ ap bytes_of_words (sym (take-suc ws k 0 within)))
+
+pub half_bytes : (v : ℕ) (bs : List ℕ) → bs ≡ v % 256 ∷ v / 256 % 256 ∷ [] → get_or bs 0 0 ∷ get_or bs 1 0 ∷ [] ≡ bytes_of 2 v
+unfolding bytes_of
+half_bytes v bs is = ap (λ (xs : List ℕ). get_or xs 0 0 ∷ get_or xs 1 0 ∷ []) is
+
+-- one more byte after k
+pub byte_read : (m : ℕ → ℕ) (a at k b n : ℕ) (buffer : List ℕ) → k < n → length buffer ≡ n → at ≡ a + k → b ≡ m at → take k buffer ≡ bytes m a k
+    → (at + 1 ≡ a + (k + 1)) × (length (set buffer k b) ≡ n) × (take (k + 1) (set buffer k b) ≡ bytes m a (k + 1))
+byte_read m a at k b n buffer within size there is before =
+    let next : k + 1 ≡ suc k = omega arith in (
+      omega arith,
+      length-set buffer k b ∙ size,
+      ap (λ (j : ℕ). take j (set buffer k b)) next ∙ take-suc-set buffer k b (omega (arith, size))
+          ∙ ap₂ (λ (xs : List ℕ) (v : ℕ). xs ++ v ∷ []) before (is ∙ ap m there)
+          ∙ sym (bytes_on m a k) ∙ ap (bytes m a) (sym next),
+    )
+
+pub none_put : (m : ℕ → ℕ) (a : ℕ) → m ≡ put m a (bytes_of_words [])
+unfolding bytes_of_words
+none_put m a = λ i k. sym (put-outside m a [] k (away k)) i
+  where
+    away : (k : ℕ) → (k < a) ⊎ (a + length {A = ℕ} [] ≤ k)
+    away k = ⊎_elim (λ t. inr (omega (arith, t.1))) (λ t. inl t.1) (leb_tells a k)
+
+pub no_bytes : (m : ℕ → ℕ) (a : ℕ) → [] ≡ bytes m a 0
+unfolding bytes
+no_bytes m a = refl
