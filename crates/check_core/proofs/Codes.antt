@@ -1,30 +1,15 @@
 -- The exit code of a replay is a word.
-use Rattle.std.proofs.Common.{◌≡◌, inl, inr, ℕ, zero, suc, ◌+◌, ◌-◌, ◌*◌, ◌/◌, ◌%◌, ◌^◌, ◌<◌, Bool, true, false, leb, ltb, eqb, List, [], ◌∷◌, length, get_or, replicate, Option, Some, None, Result, Ok, Err, refl, sym, ap, ◌∙◌, subst, arith}
+use Rattle.std.proofs.Common.{◌≡◌, inl, inr, ℕ, zero, suc, ◌+◌, ◌-◌, ◌*◌, ◌/◌, ◌%◌, ◌^◌, ◌<◌, eqb, List, [], ◌∷◌, length, get_or, replicate, Option, Some, None, refl, sym, ap, ◌∙◌, subst, arith}
 use Rattle.std.specs.Prelude.{unwrap_or}
 use Rattle.page_core.specs.Pages.{IsPage, zero_page}
 use Rattle.part_tree.specs.Part.{Part, pruned, branch, leaf, IsPart, page_at, fill}
-use Rattle.rv_isa.specs.declared.instr.Instr.{Instr}
-use Rattle.rv_isa.specs.declared.instr.Instr.TheVariants.{Lui, Auipc, Jal, Jalr, Branch, Load, Store, AluImm, Alu, Fence, Ecall, Ebreak}
-use Rattle.rv_isa.specs.declared.fault.Fault.{Fault}
-use Rattle.rv_isa.specs.declared.fault.Fault.TheVariants.{Illegal, Break}
-use Rattle.host_calls.specs.declared.call.Call.{Call}
-use Rattle.host_calls.specs.declared.call.Call.TheVariants.{Halt, Read, Commit, Assume}
-use Rattle.rv_step.specs.declared.act.Act.{Act}
-use Rattle.rv_step.specs.declared.act.Act.TheVariants.{Sets, Loads, Stores, Does, Faults}
-use Rattle.rv_isa.specs.Words.{plus}
-use Rattle.rv_isa.specs.Arithmetic.{taken_of}
 use Rattle.page_core.specs.Memory.{top, bytes, number_of}
-use Rattle.rv_isa.specs.Rows.{decode_of}
-use Rattle.host_calls.specs.Calls.{fits_below, within, checked, read_call_of, ranges_of, takes}
-use Rattle.rv_step.specs.Machine.{State, Went, Halted, Faulted, load_width, store_width, at_address, jump, call_act, act_of, act_of_word, supplied, act, called, done, step_of}
-use Rattle.rv_isa.specs.Registers.{register, AreRegisters}
-use Rattle.rv_step.specs.Runs.{after}
+use Rattle.rv_isa.specs.Registers.{AreRegisters}
 use Rattle.seal_replay.specs.Replay.{enter, registers_in, words_at}
 use Rattle.claim_types.specs.declared.claim.Exit.TheVariants.{Halted as HaltedWith}
 use Rattle.rv_step.specs.Laws.{IsReady}
-use Rattle.rv_step.proofs.Acts.{at_cond}
-use Rattle.rv_step.proofs.Kept.{no_halt, step_keeps_ready}
-use Rattle.rv_step.proofs.Runs.{same_some, step_back}
+use Rattle.rv_step.proofs.Kept.{step_keeps, step_halts_with_word}
+use Rattle.rv_step.proofs.Runs.{run_keeps}
 use Rattle.seal_replay.proofs.Chains.{halts}
 use Rattle.page_core.specs.Memories.{flat}
 use Rattle.claim_types.specs.Claims.{SpanClaim}
@@ -35,125 +20,6 @@ use Rattle.receipt_types.specs.Bundles.{AreSeals}
 use Rattle.part_tree.proofs.Shown.{chosen, of_either}
 use Rattle.lift_join.proofs.Inversion.{has_claim, joins}
 use Rattle.check_core.proofs.Carries.{ends_with}
-
--- ---- an act that halts does so with a word
-abbrev HaltsSmall : Call → Type 0
-HaltsSmall (Halt code) = code < 2 ^ 32
-HaltsSmall (Read pointer count) = Unit {0}
-HaltsSmall (Commit pointer count) = Unit {0}
-HaltsSmall (Assume image journal) = Unit {0}
-
-abbrev ActSmall : Act → Type 0
-ActSmall (Sets pc rd v) = Unit {0}
-ActSmall (Loads op rd a) = Unit {0}
-ActSmall (Stores op a v) = Unit {0}
-ActSmall (Does call) = HaltsSmall call
-ActSmall (Faults fault) = Unit {0}
-
-record IsSmall (a : Act) : Type 0 where
-  small : ActSmall a
-
-abbrev ResultSmall : Result Call Fault → Type 0
-ResultSmall (Ok call) = HaltsSmall call
-ResultSmall (Err fault) = Unit {0}
-
-record CallSmall (r : Result Call Fault) : Type 0 where
-  small : ResultSmall r
-
-small_fault : (f : Fault) → IsSmall (Faults f)
-small_fault f = record { small = tt }
-
-small_jump : (target rd v : ℕ) → IsSmall (jump target rd v)
-small_jump target rd v = at_cond IsSmall (eqb (target % 4) 0) _ _ (λ e. record { small = tt }) (λ e. small_fault _)
-
-small_at : (width a : ℕ) (b : Act) → IsSmall b → IsSmall (at_address width a b)
-small_at width a b h = at_cond IsSmall (eqb (a % width) 0) _ _ (λ e. at_cond IsSmall (ltb a top) _ _ (λ l. h) (λ l. small_fault _)) (λ e. small_fault _)
-
-within_small : (rs : List (ℕ × ℕ)) (call : Call) → HaltsSmall call → CallSmall (within rs call)
-unfolding within
-within_small [] call h = record { small = h }
-within_small (r ∷ rs) call h = at_cond CallSmall (fits_below r.0 r.1) _ _ (λ e. within_small rs call h) (λ e. record { small = tt })
-
-checked_small : (number : ℕ) (good : Bool) (call : Call) → HaltsSmall call → CallSmall (checked number good call)
-unfolding checked
-checked_small number true call h = within_small (ranges_of call) call h
-checked_small number false call h = record { small = tt }
-
-call_small : (x : List ℕ) → get_or x 10 0 < 2 ^ 32 → CallSmall (read_call_of x)
-unfolding read_call_of
-call_small x h =
-    at_cond CallSmall (eqb number 0) _ _ (λ e. record { small = h })
-    (λ e. at_cond CallSmall (eqb number 1) _ _ (λ e. checked_small 1 _ _ tt)
-    (λ e. at_cond CallSmall (eqb number 2) _ _ (λ e. checked_small 2 _ _ tt)
-    (λ e. at_cond CallSmall (eqb number 3) _ _ (λ e. checked_small 3 _ _ tt) (λ e. record { small = tt }))))
-  where
-    number : ℕ
-    number = get_or x 17 0
-
-small_call : (r : Result Call Fault) → CallSmall r → IsSmall (call_act r)
-small_call (Ok call) h = record { small = h.small }
-small_call (Err fault) h = small_fault fault
-
-small_act_of : (i : Instr) (pc : ℕ) (x : List ℕ) → get_or x 10 0 < 2 ^ 32 → IsSmall (act_of i pc x)
-unfolding act_of
-small_act_of (Lui rd imm) pc x h = record { small = tt }
-small_act_of (Auipc rd imm) pc x h = record { small = tt }
-small_act_of (Jal rd offset) pc x h = small_jump _ _ _
-small_act_of (Jalr rd rs1 imm) pc x h = small_jump _ _ _
-small_act_of (Branch op rs1 rs2 offset) pc x h =
-    at_cond IsSmall (taken_of op (register x rs1) (register x rs2)) _ _ (λ e. small_jump _ _ _) (λ e. record { small = tt })
-small_act_of (Load op rd rs1 imm) pc x h = small_at (load_width op) _ (Loads op rd (plus (register x rs1) imm)) (record { small = tt })
-small_act_of (Store op rs1 rs2 imm) pc x h = small_at (store_width op) _ (Stores op (plus (register x rs1) imm) (register x rs2)) (record { small = tt })
-small_act_of (AluImm op rd rs1 imm) pc x h = record { small = tt }
-small_act_of (Alu op rd rs1 rs2) pc x h = record { small = tt }
-small_act_of Fence pc x h = record { small = tt }
-small_act_of Ecall pc x h = small_call (read_call_of x) (call_small x h)
-small_act_of Ebreak pc x h = small_fault Break
-
-small_decoded : (o : Option Instr) (word pc : ℕ) (x : List ℕ) → get_or x 10 0 < 2 ^ 32 → IsSmall (elim o [ Some instr ↦ act_of instr pc x | None ↦ Faults (Illegal word) ])
-small_decoded (Some i) word pc x h = small_act_of i pc x h
-small_decoded None word pc x h = small_fault _
-
-small_supplied : (left : ℕ) (a : Act) → IsSmall a → IsSmall (supplied left a)
-small_supplied left (Sets pc rd v) h = h
-small_supplied left (Loads op rd a) h = h
-small_supplied left (Stores op a v) h = h
-small_supplied left (Does call) h = at_cond IsSmall (leb (takes call) left) _ _ (λ e. h) (λ e. small_fault _)
-small_supplied left (Faults fault) h = h
-
-small_act : (s : State) → get_or s.x 10 0 < 2 ^ 32 → IsSmall (act s)
-unfolding act act_of_word
-small_act s h =
-    at_cond IsSmall (leb top s.pc) _ _ (λ e. small_fault _)
-    (λ e. small_supplied (length s.words) _ (small_decoded (decode_of (number_of (bytes s.memory s.pc 4))) _ s.pc s.x h))
-
-not_halt : (c : ℕ) (t : State) → Went t ≡ Halted c → ⊥
-not_halt c t e = no_halt c t (sym e)
-
-fault_not_halt : (c : ℕ) (f : Fault) → Faulted f ≡ Halted c → ⊥
-fault_not_halt c f e = cc
-
-halted_same : (c d : ℕ) → Halted c ≡ Halted d → c ≡ d
-halted_same c d e = cc
-
-called_small : (call : Call) (s : State) (code : ℕ) → HaltsSmall call → called call s ≡ Halted code → code < 2 ^ 32
-unfolding called
-called_small (Halt c) s code h e = let same : c ≡ code = halted_same c code e in omega (arith, h)
-called_small (Read pointer count) s code h e = absurd (not_halt code _ e)
-called_small (Commit pointer count) s code h e = absurd (not_halt code _ e)
-called_small (Assume image journal) s code h e = absurd (not_halt code _ e)
-
-done_small : (a : Act) (s : State) (code : ℕ) → ActSmall a → done a s ≡ Halted code → code < 2 ^ 32
-unfolding done
-done_small (Sets pc rd v) s code h e = absurd (not_halt code _ e)
-done_small (Loads op rd a) s code h e = absurd (not_halt code _ e)
-done_small (Stores op a v) s code h e = absurd (not_halt code _ e)
-done_small (Does call) s code h e = called_small call s code h e
-done_small (Faults f) s code h e = absurd (fault_not_halt code f e)
-
-pub halts_small : (s : State) (code : ℕ) → IsReady s → step_of s ≡ Halted code → code < 2 ^ 32
-unfolding step_of
-halts_small s code ready e = done_small (act s) s code (small_act s (ready.registers.are_words 10)).small e
 
 -- ---- the registers that a tree shows
 page_shape : (h i p : ℕ) (t : Part) (page : List ℕ) → IsPart h t → page_at i t p ≡ Some page → IsPage page
@@ -211,12 +77,11 @@ registers_ready m h = record {
 }
 
 pub enter_ready : (seal : Seal) → IsSeal seal → IsReady (enter seal)
-enter_ready seal good = record { aligned = good.aligned; registers = registers_ready (flat (fill seal.tree)) (fill_small seal.tree good.shape) }
-
-pub run_ready : (s : State) (n : ℕ) (t : State) → IsReady s → after s n ≡ Some t → IsReady t
-unfolding after
-run_ready s zero t ready h = subst (λ (u : State). IsReady u) (same_some s t h) ready
-run_ready s (suc n) t ready h = let (u, before, goes) = step_back s n t h in step_keeps_ready u t (run_ready s n u ready before) goes
+enter_ready seal good = record {
+  aligned = good.aligned;
+  registers = registers_ready (flat (fill seal.tree)) (fill_small seal.tree good.shape);
+  is_word = good.is_word;
+}
 
 -- ---- so the exit code of a chain is a word
 pub chain_code : (H : List ℕ → List ℕ) (seals : List Seal) (claim : SpanClaim) (code : ℕ) → AreSeals seals → chain_of H seals ≡ Some claim → claim.exit ≡ HaltedWith code → code < 2 ^ 32
@@ -224,7 +89,8 @@ chain_code H [] claim code good chain exit = absurd (cc)
 chain_code H (seal ∷ []) claim code good chain exit =
     let h = has_claim H seal claim chain in
     let (near, stops) = halts seal code h.state (ends_with H seal claim (HaltedWith code) h exit) in
-    halts_small h.state code (run_ready (enter seal) (seal.steps - 1) h.state (enter_ready seal good.0) near) stops
+    step_halts_with_word h.state code
+    (run_keeps IsReady (λ u v e. (step_keeps u v e).ready) (enter seal) (seal.steps - 1) h.state (enter_ready seal good.0) near) stops
 chain_code H (seal ∷ next ∷ seals) claim code good chain exit =
     let j = joins (claim_of H seal) (chain_of H (next ∷ seals)) claim chain in
     chain_code H (next ∷ seals) j.right code good.1 j.is_right (sym (ap (λ (c : SpanClaim). c.exit) j.is) ∙ exit)

@@ -30,7 +30,9 @@ use Rattle.receipt_types.specs.Bundles.{Entry, AreEntries, AreSeals}
 use Rattle.check_core.specs.Hashed.{end_strings, seal_strings, ok_strings, claim_strings, entry_strings, tag_names, strings_of}
 use Rattle.check_core.specs.Laws.{HashedAreBytes}
 use Rattle.lift_join.proofs.Inversion.{has_claim, joins}
-use Rattle.check_core.proofs.Made.{IsMade, AreCalls, bytes_are, put_small, bytes_of_words-small, end_made, chain_made}
+use Rattle.rv_step.specs.Acts.{AreCalls, IsMade}
+use Rattle.rv_step.proofs.Made.{bytes_are, put_small, bytes_of_words-small}
+use Rattle.check_core.proofs.Made.{end_made, chain_made}
 
 -- ---- lists of strings
 abbrev AllBytes : List (List ℕ) → Type 0

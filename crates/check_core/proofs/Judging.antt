@@ -8,7 +8,8 @@ use Rattle.host_calls.specs.declared.call.AssumeCall.{AssumeCall}
 use Rattle.rv_step.specs.Machine.{State}
 use Rattle.claim_types.specs.declared.claim.Exit.{Exit}
 use Rattle.claim_types.specs.declared.claim.Exit.TheVariants.{Split, Halted as HaltedWith}
-use Rattle.seal_replay.specs.Replay.{Stop, stop_of, ending}
+use Rattle.seal_replay.specs.Replay.{stop_of, ending}
+use Rattle.seal_replay.specs.declared.stop.ReplayStop.{ReplayStop}
 use Rattle.std.specs.Option.{option_or}
 use Rattle.seal_replay.proofs.Chains.{first_none, second_none}
 use Rattle.seal_replay.proofs.Endings.{cond_none, has_ending}
@@ -50,7 +51,7 @@ pub test_state : (a b : SystemState) → a ≡ b → same_state a b ≡ true
 test_state a b h =
     test_both (eqb a.pc b.pc) (bytes_eq a.root b.root) (test_number a.pc b.pc (ap (λ (s : SystemState). s.pc) h)) (test_bytes a.root b.root (ap (λ (s : SystemState). s.root) h))
 
-not_broken : (e k : ℕ) (o : Option Stop) → broken_stop e k o ≡ None → o ≡ None
+not_broken : (e k : ℕ) (o : Option ReplayStop) → broken_stop e k o ≡ None → o ≡ None
 not_broken e k None h = refl
 not_broken e k (Some stop) h = absurd (cc)
 
@@ -76,7 +77,7 @@ inner_splits e k (Split, t) next seals h = refl
 inner_splits e k (HaltedWith code, t) next seals h = absurd (cc)
 
 pub claim_from : (H : List ℕ → List ℕ) (seal : Seal) (x : Exit × State) → stop_of seal ≡ None → ending seal ≡ Some x → claim_of H seal ≡ Some (claim_at H seal x)
-claim_from H seal x clean ends = ap₂ (λ (o : Option Stop) (p : Option (Exit × State)). unless o (option_map (claim_at H seal) p)) clean ends
+claim_from H seal x clean ends = ap₂ (λ (o : Option ReplayStop) (p : Option (Exit × State)). unless o (option_map (claim_at H seal) p)) clean ends
 
 pub join_some : (a b : SpanClaim) → is_split a.exit ≡ true → same_state a.after b.before ≡ true → claim_join a b ≡ Some (joined a b)
 join_some a b h k = ap (λ (t : Bool). cond t (Some (joined a b)) None) (test_both (is_split a.exit) (same_state a.after b.before) h k)

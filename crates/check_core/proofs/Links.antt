@@ -26,7 +26,7 @@ use Rattle.part_tree.proofs.Splits.{differ_same, first_shown, then_shown, same_o
 use Rattle.check_core.proofs.Codes.{chain_code}
 use Rattle.lift_join.proofs.Inversion.{has_claim, joins}
 use Rattle.check_core.proofs.Firsts.{accepted_at}
-use Rattle.check_core.proofs.Made.{AreCalls}
+use Rattle.rv_step.specs.Acts.{AreCalls}
 use Rattle.check_core.proofs.Members.{claim_entry, entry_at, output_in, string_in}
 use Rattle.check_core.proofs.Strings.{output_parts, claim_parts, exit_bytes, code_zero}
 

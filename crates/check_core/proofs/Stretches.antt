@@ -14,7 +14,7 @@ use Rattle.rv_step.specs.Laws.{IsReady, Beside, Alike}
 use Rattle.seal_replay.specs.Laws.{BeginsAt, beside}
 use Rattle.rv_step.proofs.Full.{full-below}
 use Rattle.rv_step.proofs.Frame.{step_reads_its_foot}
-use Rattle.rv_step.proofs.Kept.{step_writes_its_foot, both, not_true}
+use Rattle.rv_step.proofs.Kept.{step_keeps, both, not_true}
 use Rattle.rv_step.proofs.Runs.{same_some, step_back, not_ended, after-add, run_reads_its_feet}
 use Rattle.seal_replay.proofs.Chains.{feet_open, all_used, splits, seal_runs, enters_ready, enters_alike, opens_registers, ready_like}
 use Rattle.page_core.specs.Memories.{page_of}
@@ -37,7 +37,7 @@ run_leaves pages more s r (suc n) t v ready same h feet g a closed =
     let x_is : x ≡ w = same_some x w (sym reached ∙ there) in
     let (foot, cost, events) = step_reads_its_foot pages more u x fit.aligned alike (feet n u (omega arith) before) (λ f. absurd (not_ended u t _ goes f)) in
     let w_foot : foot_of w ≡ foot_of u = ap foot_of (sym x_is) ∙ foot in
-    step_writes_its_foot w v a on
+    (step_keeps w v on).outside a
     (not_true _ (λ e. both _ (feet n u (omega arith) before (a / 1024) (subst (λ (f : List ℕ). IsTrue (contains f (a / 1024))) w_foot e)) closed))
     ∙ run_leaves pages more s r n u w ready same before (λ k y l e. feet k y (omega arith) e) there a closed
 

@@ -5,7 +5,8 @@ use Rattle.host_calls.specs.declared.call.AssumeCall.{AssumeCall}
 use Rattle.rv_step.specs.Machine.{State}
 use Rattle.claim_types.specs.declared.claim.Exit.{Exit}
 use Rattle.claim_types.specs.declared.claim.Exit.TheVariants.{Split, Halted as HaltedWith}
-use Rattle.seal_replay.specs.Replay.{Stop, stop_of, ending}
+use Rattle.seal_replay.specs.Replay.{stop_of, ending}
+use Rattle.seal_replay.specs.declared.stop.ReplayStop.{ReplayStop}
 use Rattle.std.specs.Option.{option_or}
 use Rattle.claim_types.specs.declared.state.State.{State as SystemState}
 use Rattle.claim_types.specs.States.{state_digest}
@@ -49,7 +50,7 @@ pub record Accepts (H : List ℕ → List ℕ) (B : Bundle) (id : List ℕ) : Ty
 -- ---- stopped
 pub data CheckStop : Type 0 where
   WrongImage : (found : List ℕ) → CheckStop
-  Broken : (entry seal : ℕ) (stop : Stop) → CheckStop
+  Broken : (entry seal : ℕ) (stop : ReplayStop) → CheckStop
   Unjoined : (entry seal : ℕ) (after before : SystemState) → CheckStop
   EndInside : (entry seal : ℕ) → CheckStop
   NoEnd : (entry : ℕ) → CheckStop
@@ -64,7 +65,7 @@ image_stop H id None = None
 image_stop H id (Some first) = stop_unless (bytes_eq (state_digest H first) id) (WrongImage (state_digest H first))
 
 -- seal k of entry e: its replay stops
-abbrev pub broken_stop : ℕ → ℕ → Option Stop → Option CheckStop
+abbrev pub broken_stop : ℕ → ℕ → Option ReplayStop → Option CheckStop
 broken_stop e k None = None
 broken_stop e k (Some stop) = Some (Broken e k stop)
 

@@ -6,7 +6,8 @@ use Rattle.std.proofs.lemmas.Slice.Eq.{bytes_eq-Decides}
 use Rattle.rv_step.specs.Machine.{State}
 use Rattle.claim_types.specs.declared.claim.Exit.{Exit}
 use Rattle.claim_types.specs.declared.claim.Exit.TheVariants.{Split, Halted as HaltedWith}
-use Rattle.seal_replay.specs.Replay.{Stop, stop_of, ending}
+use Rattle.seal_replay.specs.Replay.{stop_of, ending}
+use Rattle.seal_replay.specs.declared.stop.ReplayStop.{ReplayStop}
 use Rattle.rv_step.proofs.Runs.{same_some}
 use Rattle.claim_types.specs.declared.state.State.{State as SystemState}
 use Rattle.claim_types.specs.Claims.{SpanClaim}
@@ -23,7 +24,7 @@ pub record HasClaim (H : List ℕ → List ℕ) (seal : Seal) (claim : SpanClaim
   pub ends : ending seal ≡ Some (exit, state)
   pub is : claim ≡ claim_at H seal (exit, state)
 
-unless_is : (H : List ℕ → List ℕ) (seal : Seal) (o : Option Stop) (p : Option (Exit × State)) (claim : SpanClaim) → unless o (option_map (claim_at H seal) p) ≡ Some claim
+unless_is : (H : List ℕ → List ℕ) (seal : Seal) (o : Option ReplayStop) (p : Option (Exit × State)) (claim : SpanClaim) → unless o (option_map (claim_at H seal) p) ≡ Some claim
     → (e : Exit × State) × (o ≡ None) × (p ≡ Some e) × (claim ≡ claim_at H seal e)
 unless_is H seal None (Some e) claim h = (e, refl, refl, sym (same_some (claim_at H seal e) claim h))
 unless_is H seal None None claim h = absurd (cc)

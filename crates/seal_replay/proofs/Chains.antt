@@ -1,15 +1,16 @@
 -- Chains of seals that agree with a run.
-use Rattle.std.proofs.Common.{◌≡◌, ℕ, zero, suc, ◌+◌, ◌-◌, ◌%◌, ◌<◌, ◌≤◌, Bool, true, false, not, cond, ◌||◌, eqb, List, [], ◌∷◌, ◌++◌, length, get_or, replicate, refl, sym, ap, ◌∙◌, subst, arith, IsTrue, Option, Some, None, option_and_then, append_assoc, append-nil, ⊎_elim}
+use Rattle.std.proofs.Common.{◌≡◌, ℕ, zero, suc, ◌+◌, ◌-◌, ◌%◌, ◌^◌, ◌<◌, ◌≤◌, Bool, true, false, not, cond, ◌||◌, eqb, List, [], ◌∷◌, ◌++◌, length, get_or, replicate, refl, sym, ap, ◌∙◌, subst, arith, IsTrue, Option, Some, None, option_and_then, append_assoc, append-nil, ⊎_elim}
 use Rattle.std.proofs.lemmas.Bool.Decides.{nat_tests, eqb_tells}
 use Rattle.rv_isa.specs.declared.fault.Fault.{Fault}
 use Rattle.rv_isa.specs.declared.fault.Fault.TheVariants.{InputEnd}
-use Rattle.page_core.specs.Memory.{contains, Within, Agree}
+use Rattle.page_core.specs.Memory.{top, contains, Within, Agree}
 use Rattle.host_calls.specs.declared.call.AssumeCall.{AssumeCall}
 use Rattle.rv_step.specs.Machine.{State, Event, Went, Halted, Faulted, step_of, foot_of, full, full_of, first_closed}
 use Rattle.page_core.specs.Images.{Image, IsImage}
 use Rattle.rv_step.specs.Runs.{start, after}
 use Rattle.receipt_types.specs.Seals.{Seal, words_of, steps_of}
-use Rattle.seal_replay.specs.Replay.{memory_of, opened_by, Stop, enter, registers_in, page_stop, event_stop, stop_at, first_below, step_stop, stop_of, ending, halting, split, words_stop}
+use Rattle.seal_replay.specs.Replay.{memory_of, opened_by, enter, registers_in, page_stop, event_stop, stop_at, first_below, step_stop, stop_of, ending, halting, split, words_stop}
+use Rattle.seal_replay.specs.declared.stop.ReplayStop.{ReplayStop}
 use Rattle.std.specs.Option.{option_or}
 use Rattle.claim_types.specs.declared.claim.Exit.{Exit}
 use Rattle.claim_types.specs.declared.claim.Exit.TheVariants.{Split, Halted as HaltedWith}
@@ -55,9 +56,9 @@ all_open opened (q ∷ pages) h p e =
     opened_one opened pages p q (contains opened q) (eqb p q) refl refl (λ n t. all_open opened pages n p t) h e
 
 pub no_step_stop : (seal : Seal) (k : ℕ) (u : State) → step_stop seal k ≡ None → after (enter seal) k ≡ Some u
-    → stop_at (opened_by seal) seal.steps k u ≡ None
+    → stop_at (contains (opened_by seal)) seal.steps k u ≡ None
 unfolding step_stop
-no_step_stop seal k u h e = sym (ap (option_and_then (stop_at (opened_by seal) seal.steps k)) e) ∙ h
+no_step_stop seal k u h e = sym (ap (option_and_then (stop_at (contains (opened_by seal)) seal.steps k)) e) ∙ h
 
 -- a seal with no stop has each footprint opened
 pub feet_open : (seal : Seal) → stop_of seal ≡ None → (k : ℕ) (u : State) → k < seal.steps → after (enter seal) k ≡ Some u
@@ -69,7 +70,7 @@ feet_open seal h k u l e =
     (first_none (page_stop k (first_closed (contains (opened_by seal)) (foot_of u))) (event_stop seal.steps k (step_of u))
     (no_step_stop seal k u (below_none (step_stop seal) seal.steps k (first_none _ _ h) l) e)))
 
-no_words : (words : List ℕ) (b : Bool) (stop : Stop) → eqb (length words) 0 ≡ b → cond b None (Some stop) ≡ None → words ≡ []
+no_words : (words : List ℕ) (b : Bool) (stop : ReplayStop) → eqb (length words) 0 ≡ b → cond b None (Some stop) ≡ None → words ≡ []
 no_words [] b stop e h = refl
 no_words (w ∷ words) true stop e h = let n : suc (length words) ≡ 0 = grind (arith, nat_tests) in absurd (omega arith)
 no_words (w ∷ words) false stop e h = absurd (cc)
@@ -149,6 +150,7 @@ module _ (r s : State) (b : ℕ) (seal : Seal) (rest : List ℕ) (reached : afte
   enters_ready = record {
     aligned = let a : s.pc % 4 ≡ 0 = fit.aligned in omega (arith, same_pc);
     registers = subst (λ (x : List ℕ). AreRegisters x) (sym same_registers) fit.registers;
+    is_word = let w : s.pc < 2 ^ 32 = fit.is_word in omega (arith, same_pc);
   }
 
   pub enters_alike : Alike (opened_by seal) (beside s rest) (enter seal) s
@@ -199,6 +201,7 @@ pub ready_like : (pages : List ℕ) (more : Beside) (t v : State) → IsReady t 
 ready_like pages more t v fit same = record {
   aligned = let a : t.pc % 4 ≡ 0 = fit.aligned in omega (arith, same.pc);
   registers = subst (λ (x : List ℕ). AreRegisters x) (sym same.x) fit.registers;
+  is_word = let w : t.pc < 2 ^ 32 = fit.is_word in omega (arith, same.pc);
 }
 
 -- the halting step of the last seal is the run's
@@ -259,6 +262,7 @@ pub start_ready : (image : Image) (words : List ℕ) → IsImage image → IsRea
 start_ready image words h = record {
   aligned = h.aligned;
   registers = record { size = refl; zero_first = refl; are_words = λ n. omega (arith, zeros 32 n) };
+  is_word = let low : image.entry < top = h.below in omega arith;
 }
 
 pub agreement_carries_over : AgreementCarriesOver

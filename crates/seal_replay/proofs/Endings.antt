@@ -9,7 +9,8 @@ use Rattle.rv_step.specs.Runs.{after}
 use Rattle.rv_step.proofs.Runs.{step_on}
 use Rattle.claim_types.specs.declared.claim.Exit.TheVariants.{Split, Halted as HaltedWith}
 use Rattle.receipt_types.specs.Seals.{Seal}
-use Rattle.seal_replay.specs.Replay.{opened_by, EndsEarly, enter, page_stop, event_stop, step_stop, first_below, stop_of, ending, halting, split}
+use Rattle.seal_replay.specs.Replay.{opened_by, enter, page_stop, event_stop, step_stop, first_below, stop_of, ending, halting, split}
+use Rattle.seal_replay.specs.declared.stop.ReplayStop.TheVariants as Stop
 use Rattle.seal_replay.specs.Laws.{UnstoppedEnds}
 use Rattle.seal_replay.proofs.Chains.{first_none, second_none, below_none, no_step_stop}
 
@@ -33,7 +34,7 @@ Reaches seal n = ((u : State) × (after (enter seal) n ≡ Some u)) ⊎ HaltsAt 
 on_event : (seal : Seal) (m : ℕ) (u : State) (e : Event) → after (enter seal) m ≡ Some u → step_of u ≡ e → event_stop seal.steps m e ≡ None → Reaches seal (suc m)
 on_event seal m u (Went t) reached is h = inl (t, step_on (enter seal) m u t reached is)
 on_event seal m u (Halted code) reached is h =
-    let at_end : m + 1 ≡ seal.steps = number_same (m + 1) seal.steps (cond_none (eqb (m + 1) seal.steps) (EndsEarly m) h) in
+    let at_end : m + 1 ≡ seal.steps = number_same (m + 1) seal.steps (cond_none (eqb (m + 1) seal.steps) (Stop.EndsEarly m) h) in
     inr (record { state = u; code = code; last = omega (arith, at_end); reached = ap (after (enter seal)) (omega arith) ∙ reached; halts = is })
 on_event seal m u (Faulted fault) reached is h = absurd (cc)
 

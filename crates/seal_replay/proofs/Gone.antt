@@ -1,152 +1,156 @@
 -- The steps of a replay, one after the other.
-use Rattle.std.proofs.Common.{◌≡◌, ℕ, zero, suc, ◌+◌, ◌-◌, ◌/◌, ◌<◌, ◌⊎◌, Result, Ok, Bool, true, false, not, cond, eqb, leb, List, [], ◌∷◌, ◌++◌, length, find, get_or, Option, Some, None, refl, sym, ap, ◌∙◌, subst, arith, add-one}
+use Rattle.std.proofs.Common.{◌≡◌, ◌≢◌, ℕ, zero, suc, ◌+◌, ◌-◌, ◌<◌, ⊎_elim, Ok, Err, Bool, true, false, cond, eqb, List, [], ◌++◌, length, Option, Some, None, refl, sym, ap, ap₂, ◌∙◌, subst, arith, IsTrue}
 use Rattle.std.specs.Prelude.{option_and_then}
 use Rattle.std.specs.Option.{option_or}
-use Rattle.std.proofs.lemmas.Bool.Decides.{nat_tests}
-use Rattle.page_core.specs.Memory.{top, contains}
-use Rattle.rv_step.specs.declared.place.Core.{Core}
-use Rattle.rv_step.specs.Machine.{State, Event, Went, Halted, step_of}
+use Rattle.std.proofs.lemmas.Bool.Decides.{nat_tests, eqb_tells}
+use Rattle.rv_isa.specs.declared.fault.Fault.{Fault}
+use Rattle.rv_isa.specs.declared.fault.Fault.TheVariants.{Illegal, BadAddress, Misaligned, BadTarget, Break, BadCall, BadArgs, InputEnd}
+use Rattle.page_core.specs.Memory.{contains}
+use Rattle.rv_step.specs.Machine.{State, Event, Went, Halted, Faulted, step_of, foot_of, first_closed}
 use Rattle.rv_step.specs.Runs.{after, touched, pages_at, state_gone}
-use Rattle.rv_step.specs.Laws.{Beside}
-use Rattle.rv_step.specs.Stepping.{fetch_foot, IsDone, IsStepOf, state_at}
-use Rattle.rv_step.specs.declared.stepping.Event.{Event as StepEvent}
+use Rattle.rv_step.specs.Stepping.{IsStepOf}
 use Rattle.rv_step.specs.declared.stepping.Event.TheVariants as E
-use Rattle.rv_step.specs.declared.stepping.StepStop.{StepStop}
-use Rattle.page_core.specs.Memories.{flat}
-use Rattle.part_tree.specs.Part.{Part, opened, fill}
+use Rattle.rv_step.specs.declared.stepping.StepStop.TheVariants as S
 use Rattle.rv_step.proofs.Runs.{step_on}
-use Rattle.claim_types.specs.declared.claim.Exit.TheVariants.{Halted as HaltedWith}
-use Rattle.receipt_types.specs.Seals.{Seal}
-use Rattle.seal_replay.specs.Replay.{opened_by, Stop, enter, page_stop, event_stop, stop_at, step_stop, first_below, stop_of, ending, halting, split, words_stop, idle_stop}
-use Rattle.seal_replay.specs.Replaying.{plain_state, MarksWithin, HasGone, HaltsLast, HaltsPlainly}
-use Rattle.seal_replay.proofs.Marked.{none_idle, two_more}
 use Rattle.part_tree.proofs.Splits.{both_none}
+use Rattle.claim_types.specs.declared.claim.Exit.TheVariants.{Split, Halted as HaltedWith}
+use Rattle.receipt_types.specs.Seals.{Seal}
+use Rattle.seal_replay.specs.declared.stop.ReplayStop.{ReplayStop}
+use Rattle.seal_replay.specs.declared.stop.ReplayStop.TheVariants as Stop
+use Rattle.seal_replay.specs.Replay.{opened_by, enter, fault_stop, page_stop, event_stop, stop_at, step_stop, first_below, ending, halting, split}
+use Rattle.seal_replay.specs.Replaying.{AreMarked, AreAlsoMarked, IsEvent, HasGone, HasEnded}
+use Rattle.rv_step.specs.Stepping.{looked_of}
+use Rattle.rv_step.proofs.Looks.{looks_missed}
+use Rattle.rv_step.proofs.Steps.{first_in_fetch}
+use Rattle.seal_replay.proofs.Marked.{also_marked}
+use Rattle.seal_replay.proofs.Chains.{second_none}
+use Rattle.seal_replay.proofs.Endings.{number_same, cond_none}
 
--- a step over open pages, as the replay sees it
-module _ (seal : Seal) (k : ℕ) (s : State) (reached : after (enter seal) k ≡ Some s) (done : IsDone (contains (opened_by seal)) s) where
-  step_stop_is : step_stop seal k ≡ event_stop seal.steps k (step_of s)
-  unfolding step_stop
-  step_stop_is =
-      ap (option_and_then (stop_at (opened_by seal) seal.steps k)) reached
-      ∙ ap (λ (o : Option ℕ). option_or (page_stop k o) (event_stop seal.steps k (step_of s))) done.open_foot
+-- ---- one step
+tested : (opens : ℕ → Bool) (steps k : ℕ) (s : State) (o : Option ℕ) (e : Event) → first_closed opens (foot_of s) ≡ o → step_of s ≡ e
+    → stop_at opens steps k s ≡ option_or (page_stop k o) (event_stop steps k e)
+tested opens steps k s o e closed is = ap₂ (λ (p : Option ℕ) (f : Event). option_or (page_stop k p) (event_stop steps k f)) closed is
 
-  -- it stops nothing where its event doesn't
-  clean_on : first_below (step_stop seal) k ≡ None → event_stop seal.steps k (step_of s) ≡ None → first_below (step_stop seal) (suc k) ≡ None
-  unfolding first_below
-  clean_on clean none = both_none (first_below (step_stop seal) k) (step_stop seal k) clean (step_stop_is ∙ none)
+module _ (opens : ℕ → Bool) (steps k : ℕ) (s t : State) where
+  pub went_event : IsStepOf opens s t (Ok E.Went) → IsEvent opens steps k s t E.Went
+  went_event (shut, is) = (tested opens steps k s None (Went t) shut is, is)
 
-  -- it touches the register page and the code page
-  touched_on : touched (enter seal) (suc k) ≡ touched (enter seal) k ++ 262143 ∷ s.pc / 1024 ∷ []
-  unfolding touched
-  touched_on =
-      ap (λ (o : Option State). touched (enter seal) k ++ pages_at o) reached
-      ∙ ap (λ (pages : List ℕ). touched (enter seal) k ++ pages) (done.foot ∙ in_range)
+  pub halted_event : (code : ℕ) → k + 1 ≡ steps → IsStepOf opens s t (Ok (E.Halted code)) → IsEvent opens steps k s t (E.Halted code)
+  halted_event code last (shut, is) =
+      let same : eqb (k + 1) steps ≡ true = grind (arith, nat_tests) in
+      (tested opens steps k s None (Halted code) shut is.0 ∙ ap (λ (b : Bool). cond b None (Some (Stop.EndsEarly k))) same, is.0, is.1)
+
+  pub early_stop : (code : ℕ) → k + 1 ≢ steps → IsStepOf opens s t (Ok (E.Halted code)) → stop_at opens steps k s ≡ Some (Stop.EndsEarly k)
+  early_stop code other (shut, is) =
+      let differ : eqb (k + 1) steps ≡ false = grind (arith, nat_tests) in
+      tested opens steps k s None (Halted code) shut is.0 ∙ ap (λ (b : Bool). cond b None (Some (Stop.EndsEarly k))) differ
+
+  pub missed_stop : (page : ℕ) → IsStepOf opens s t (Err (S.Miss page)) → stop_at opens steps k s ≡ Some (Stop.Unopened k page)
+  missed_stop page (shut, same) = ap (λ (p : Option ℕ). option_or (page_stop k p) (event_stop steps k (step_of s))) shut
+
+  pub short_stop : IsStepOf opens s t (Err (S.Fault InputEnd)) → stop_at opens steps k s ≡ Some (Stop.WordsShort k)
+  short_stop (shut, is) = tested opens steps k s None (Faulted InputEnd) shut is.0
+
+  pub fault_stops : (fault : Fault) → fault ≢ InputEnd → IsStepOf opens s t (Err (S.Fault fault)) → stop_at opens steps k s ≡ Some (Stop.Fault k fault)
+  fault_stops fault other (shut, is) = tested opens steps k s None (Faulted fault) shut is.0 ∙ ap Some (not_end fault other)
     where
-      in_range : fetch_foot s ≡ 262143 ∷ s.pc / 1024 ∷ []
-      in_range = let below = done.in_range in let e : leb top s.pc ≡ false = grind (arith, nat_tests) in rw e refl
+      not_end : (fault : Fault) → fault ≢ InputEnd → fault_stop k fault ≡ Stop.Fault k fault
+      not_end (Illegal word) h = refl
+      not_end (BadAddress a) h = refl
+      not_end (Misaligned a) h = refl
+      not_end (BadTarget a) h = refl
+      not_end Break h = refl
+      not_end (BadCall n) h = refl
+      not_end (BadArgs n) h = refl
+      not_end InputEnd h = absurd (h refl)
 
-  pub marked_on : (marks : _) → MarksWithin marks (touched (enter seal) k ++ 262143 ∷ s.pc / 1024 ∷ []) → MarksWithin marks (touched (enter seal) (suc k))
-  marked_on marks m = subst (MarksWithin marks) (sym touched_on) m
+-- a step that halts and isn't stopped is the last
+last_step : (opens : ℕ → Bool) (steps k : ℕ) (s : State) (code : ℕ) → stop_at opens steps k s ≡ None → step_of s ≡ Halted code → k + 1 ≡ steps
+last_step opens steps k s code none halts =
+    number_same (k + 1) steps
+    (cond_none (eqb (k + 1) steps) (Stop.EndsEarly k)
+    (sym (ap (event_stop steps k) halts) ∙ second_none (page_stop k (first_closed opens (foot_of s))) (event_stop steps k (step_of s)) none))
 
--- before the first step
-pub gone_none : (seal : Seal) (core : Core) (marks : List Bool) → enter seal ≡ plain_state seal core → MarksWithin marks [] → HasGone seal core marks 0
+ends_at : (seal : Seal) (s : State) (k code : ℕ) → suc k ≡ seal.steps → after (enter seal) k ≡ Some s → step_of s ≡ Halted code
+    → ending seal ≡ Some (HaltedWith code, s)
+unfolding ending after
+ends_at seal s k code steps reached halts =
+    let place : seal.steps - 1 ≡ k = omega arith in
+    ap (λ (n : ℕ). option_or (option_and_then split (after (enter seal) n)) (option_and_then (λ u. halting u (step_of u)) (after (enter seal) (seal.steps - 1)))) (sym steps)
+    ∙ ap (λ (n : ℕ). option_or (option_and_then split (after (enter seal) (suc k))) (option_and_then (λ u. halting u (step_of u)) (after (enter seal) n))) place
+    ∙ ap (λ (o : Option State). option_or (option_and_then split (option_and_then (λ t. state_gone (step_of t)) o)) (option_and_then (λ u. halting u (step_of u)) o)) reached
+    ∙ ap (λ (e : Event). option_or (option_and_then split (state_gone e)) (halting s e)) halts
+
+first_some : (f : ℕ → Option ReplayStop) (k n : ℕ) (stop : ReplayStop) → first_below f k ≡ None → f k ≡ Some stop → k < n → first_below f n ≡ Some stop
+unfolding first_below
+first_some f k zero stop none is low = absurd (omega arith)
+first_some f k (suc n) stop none is low =
+    ⊎_elim
+    (λ t. ap (λ (j : ℕ). option_or (first_below f j) (f j)) (sym t.1) ∙ ap (λ (o : Option ReplayStop). option_or o (f k)) none ∙ is)
+    (λ t. ap (λ (o : Option ReplayStop). option_or o (f n)) (first_some f k n stop none is (omega (arith, t.1))))
+    (eqb_tells k n)
+
+-- ---- the steps so far
+pub gone_none : (seal : Seal) (s : State) (marks : List Bool) → enter seal ≡ s → AreMarked (opened_by seal) marks [] → HasGone seal s marks 0
 unfolding after first_below touched
-gone_none seal core marks enters unmarked = record { reached = ap Some enters; clean = refl; marked = unmarked }
+gone_none seal s marks enters unmarked = record { reached = ap Some enters; clean = refl; marked = unmarked }
 
--- a step that went
-pub gone_on : (seal : Seal) (core core' : Core) (before after' : List Bool) (k : ℕ) → HasGone seal core before k
-    → IsDone (contains (opened_by seal)) (plain_state seal core) → step_of (plain_state seal core) ≡ Went (plain_state seal core')
-    → MarksWithin after' (touched (enter seal) k ++ 262143 ∷ core.pc / 1024 ∷ []) → HasGone seal core' after' (suc k)
-gone_on seal core core' before after' k gone done went marks = record {
-  reached = step_on (enter seal) k (plain_state seal core) (plain_state seal core') gone.reached went;
-  clean = clean_on seal k (plain_state seal core) gone.reached done gone.clean (ap (event_stop seal.steps k) went);
-  marked = marked_on seal k (plain_state seal core) gone.reached done after' marks;
+module _ (seal : Seal) (s : State) (before : List Bool) (k : ℕ) (gone : HasGone seal s before k) where
+  stop_here : step_stop seal k ≡ stop_at (contains (opened_by seal)) seal.steps k s
+  unfolding step_stop
+  stop_here = ap (option_and_then (stop_at (contains (opened_by seal)) seal.steps k)) gone.reached
+
+  clean_on : stop_at (contains (opened_by seal)) seal.steps k s ≡ None → first_below (step_stop seal) (suc k) ≡ None
+  unfolding first_below
+  clean_on none = both_none (first_below (step_stop seal) k) (step_stop seal k) gone.clean (stop_here ∙ none)
+
+  -- a stop of this step is the first
+  pub stopped_at : (opens : ℕ → Bool) (stop : ReplayStop) → opens ≡ contains (opened_by seal) → k < seal.steps → stop_at opens seal.steps k s ≡ Some stop
+      → first_below (step_stop seal) seal.steps ≡ Some stop
+  stopped_at opens stop same low is =
+      first_some (step_stop seal) k seal.steps stop gone.clean (stop_here ∙ ap (λ (o : ℕ → Bool). stop_at o seal.steps k s) (sym same) ∙ is) low
+
+  module _ (opens : ℕ → Bool) (same : opens ≡ contains (opened_by seal)) (after' : List Bool) (t : State)
+      (within : (p : ℕ) → IsTrue (contains (opened_by seal) p) → p < length before) (more : AreAlsoMarked before after' (foot_of s)) where
+    marked_on : AreMarked (opened_by seal) after' (touched (enter seal) (suc k))
+    unfolding touched
+    marked_on p h =
+        also_marked (opened_by seal) before after' (touched (enter seal) k) (foot_of s) within gone.marked more p h
+        ∙ ap (λ (o : Option State). contains (touched (enter seal) k ++ pages_at o) p) (sym gone.reached)
+
+    pub gone_on : IsEvent opens seal.steps k s t E.Went → HasGone seal t after' (k + 1)
+    gone_on event =
+        let (none, went) = subst (λ (o : ℕ → Bool). IsEvent o seal.steps k s t E.Went) same event in
+        let next : suc k ≡ k + 1 = omega arith in
+        subst (λ (n : ℕ). HasGone seal t after' n) next
+        (record { reached = step_on (enter seal) k s t gone.reached went; clean = clean_on none; marked = marked_on })
+
+    pub gone_last : (code : ℕ) → k < seal.steps → IsEvent opens seal.steps k s t (E.Halted code) → HasEnded seal (HaltedWith code) t after'
+    gone_last code low event =
+        let (none, halts, as_before) = subst (λ (o : ℕ → Bool). IsEvent o seal.steps k s t (E.Halted code)) same event in
+        let steps : suc k ≡ seal.steps = add-one-here k ∙ last_step (contains (opened_by seal)) seal.steps k s code none halts in
+        let ended : HasEnded seal (HaltedWith code) s after' = record {
+          ends = ends_at seal s k code steps gone.reached halts;
+          clean = ap (first_below (step_stop seal)) (sym steps) ∙ clean_on none;
+          marked = subst (λ (n : ℕ). AreMarked (opened_by seal) after' (touched (enter seal) n)) steps marked_on;
+        } in
+        subst (λ (u : State). HasEnded seal (HaltedWith code) u after') (sym as_before) ended
+      where
+        add-one-here : (k : ℕ) → suc k ≡ k + 1
+        add-one-here k = omega arith
+
+-- all steps went
+pub gone_all : (seal : Seal) (s : State) (marks : List Bool) → HasGone seal s marks seal.steps → HasEnded seal Split s marks
+unfolding ending
+gone_all seal s marks gone = record {
+  ends = ap (λ (o : Option State). option_or (option_and_then split o) (option_and_then (λ u. halting u (step_of u)) (after (enter seal) (seal.steps - 1)))) gone.reached;
+  clean = gone.clean;
+  marked = gone.marked;
 }
 
--- a step that halts, the last one
-pub halts_at_last : (seal : Seal) (core : Core) (before after' : List Bool) (k code : ℕ) → HasGone seal core before k
-    → IsDone (contains (opened_by seal)) (plain_state seal core) → step_of (plain_state seal core) ≡ Halted code → k + 1 ≡ seal.steps
-    → MarksWithin after' (touched (enter seal) k ++ 262143 ∷ core.pc / 1024 ∷ []) → HaltsLast seal core after' code
-halts_at_last seal core before after' k code gone done halts last marks =
-    let s : State = plain_state seal core in
-    let steps : suc k ≡ seal.steps = omega arith in
-    let same : eqb (k + 1) seal.steps ≡ true = grind (arith, nat_tests) in
-    let none : event_stop seal.steps k (step_of s) ≡ None = ap (event_stop seal.steps k) halts ∙ ap (λ (b : Bool). cond b None (Some (Stop.EndsEarly k))) same in
-    record {
-      reached = let place : seal.steps - 1 ≡ k = omega arith in ap (after (enter seal)) place ∙ gone.reached;
-      halts = halts;
-      some_steps = omega arith;
-      clean = ap (first_below (step_stop seal)) (sym steps) ∙ clean_on seal k s gone.reached done gone.clean none;
-      marked = subst (λ (n : ℕ). MarksWithin after' (touched (enter seal) n)) steps (marked_on seal k s gone.reached done after' marks);
-    }
-
--- the same, from the answer of a step over a bus of the seal's tree
-module _ (seal : Seal) (t : Part) (same : t ≡ seal.tree) (core core' : Core) (before middle after' : List Bool) (k : ℕ) (gone : HasGone seal core before k)
-    (one : (page : ℕ) → get_or middle page false ≡ true → (page ≡ 262143) ⊎ (get_or before page false ≡ true))
-    (two : (page : ℕ) → get_or after' page false ≡ true → (page ≡ core.pc / 1024) ⊎ (get_or middle page false ≡ true)) where
-  marks_on : MarksWithin after' (touched (enter seal) k ++ 262143 ∷ core.pc / 1024 ∷ [])
-  marks_on = two_more before middle after' (touched (enter seal) k) 262143 (core.pc / 1024) gone.marked one two
-
-  abbrev Answers : Result StepEvent StepStop → Part → Type 0
-  Answers result tree = (beside : Beside) → IsStepOf (contains (opened 0 tree)) (state_at core (flat (fill tree)) beside) (state_at core' (flat (fill tree)) beside) result
-
-  here : Beside
-  here = record { words = seal.words; journal = []; calls = [] }
-
-  pub went_with : Answers (Ok E.Went) t → HasGone seal core' after' (k + 1)
-  unfolding here
-  went_with answer =
-      let (done, went) = subst (Answers (Ok E.Went)) same answer here in
-      rw add-one (gone_on seal core core' before after' k gone done went marks_on)
-
-  pub halts_with : (code : ℕ) → Answers (Ok (E.Halted code)) t → k + 1 ≡ seal.steps → HaltsLast seal core' after' code
-  unfolding here
-  halts_with code answer last =
-      let (done, halts, as_before) = subst (Answers (Ok (E.Halted code))) same answer here in
-      let ends : HaltsLast seal core after' code = halts_at_last seal core before after' k code gone done halts last marks_on in
-      record {
-        reached = ends.reached ∙ ap Some (sym as_before);
-        halts = ap step_of as_before ∙ ends.halts;
-        some_steps = ends.some_steps;
-        clean = ends.clean;
-        marked = ends.marked;
-      }
-
--- how a replay ends whose last step halts
-ends_at : (seal : Seal) (core : Core) (code : ℕ) → 0 < seal.steps → after (enter seal) (seal.steps - 1) ≡ Some (plain_state seal core)
-    → step_of (plain_state seal core) ≡ Halted code → ending seal ≡ Some (HaltedWith code, plain_state seal core)
-unfolding ending after
-ends_at seal core code some reached halts = go seal.steps some reached
+-- what can't be looked at has a closed page
+pub not_looked : (opens : ℕ → Bool) (s : State) (page : ℕ) → Err page ≡ looked_of opens s → first_closed opens (foot_of s) ≡ None → ⊥
+not_looked opens s page h none = some_none page (sym (first_in_fetch opens s page (looks_missed opens s page h)) ∙ none)
   where
-    s : State
-    s = plain_state seal core
-
-    go : (n : ℕ) → 0 < n → after (enter seal) (n - 1) ≡ Some s
-        → option_or (option_and_then split (after (enter seal) n)) (option_and_then (λ u. halting u (step_of u)) (after (enter seal) (n - 1))) ≡ Some (HaltedWith code, s)
-    go zero low at = absurd (omega arith)
-    go (suc k) low at =
-        let place : k ≡ suc k - 1 = omega arith in
-        let here : after (enter seal) k ≡ Some s = ap (after (enter seal)) place ∙ at in
-        ap (λ (o : Option State). option_or (option_and_then split (option_and_then (λ t. state_gone (step_of t)) o)) (option_and_then (λ u. halting u (step_of u)) (after (enter seal) (suc k - 1)))) here
-        ∙ ap (λ (e : Event). option_or (option_and_then split (state_gone e)) (option_and_then (λ u. halting u (step_of u)) (after (enter seal) (suc k - 1)))) halts
-        ∙ ap (λ (o : Option State). option_and_then (λ u. halting u (step_of u)) o) at
-        ∙ ap (halting s) halts
-
--- so a replay whose last step halts, and whose open pages are all marked, has no stop
-pub halts_plainly : (seal : Seal) (core : Core) (marks : List Bool) (code : ℕ) → seal.words ≡ [] → HaltsLast seal core marks code
-    → find (λ page. not (get_or marks page false)) (opened_by seal) ≡ None → HaltsPlainly seal code
-unfolding stop_of
-halts_plainly seal core marks code no_words last all =
-    let s : State = plain_state seal core in
-    let ends = ends_at seal core code last.some_steps last.reached last.halts in
-    record {
-      clean =
-          both_none (first_below (step_stop seal) seal.steps) _ last.clean
-          (both_none (option_and_then words_stop (ending seal)) _
-          (ap (option_and_then words_stop) ends ∙ ap (λ (ws : List ℕ). cond (eqb (length ws) 0) None (Some (Stop.WordsLeft (length ws)))) no_words)
-          (ap idle_stop (none_idle marks (touched (enter seal) seal.steps) (opened_by seal) last.marked all)));
-      state = s;
-      ends = ends;
-      no_journal = refl;
-      no_calls = refl;
-    }
+    some_none : (n : ℕ) → Some n ≡ None → ⊥
+    some_none n e = cc

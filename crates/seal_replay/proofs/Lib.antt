@@ -1,7 +1,8 @@
 pub mod Registers
 pub mod Chains
 pub mod Endings
-pub mod Shown
 pub mod Marked
+pub mod Shown
 pub mod Entered
 pub mod Gone
+pub mod Ended

@@ -1,67 +1,86 @@
 -- The marks of the pages that a replay touched.
-use Rattle.std.proofs.Common.{◌≡◌, ℕ, zero, suc, ◌+◌, ◌<◌, ◌⊎◌, ⊎_elim, Bool, true, false, not, cond, eqb, List, [], ◌∷◌, ◌++◌, get_or, length, replicate, take, find, add-one, Some, None, IsTrue, refl, sym, ap, ◌∙◌, arith}
-use Rattle.std.proofs.lemmas.Bool.Decides.{nat_tests}
+use Rattle.std.proofs.Common.{◌≡◌, ◌≢◌, ⊎_elim, ℕ, zero, suc, ◌+◌, ◌<◌, Bool, true, false, not, cond, ◌||◌, eqb, List, [], ◌∷◌, ◌++◌, get_or, set, length, replicate, take, Option, Some, IsTrue, refl, sym, ap, ap₂, ◌∙◌, arith}
+use Rattle.std.proofs.lemmas.Bool.Decides.{nat_tests, eqb_tells}
 use Rattle.page_core.specs.Memory.{contains}
-use Rattle.page_core.proofs.Listed.{contains-left, contains-right, or_left, or_right}
-use Rattle.seal_replay.specs.Replaying.{MarksWithin}
-
-false_not_true : {A : Type 0} → false ≡ true → A
-false_not_true e = absurd (cc)
+use Rattle.page_core.proofs.Listed.{or_left, or_right}
+use Rattle.std.proofs.Math.Seq.{take-suc}
+use Rattle.rv_step.specs.Machine.{first_closed}
+use Rattle.seal_replay.specs.Replaying.{AreMarked, AreAlsoMarked}
 
 -- at first none is marked
-pub none_marked : (n : ℕ) → MarksWithin (replicate n false) []
-none_marked n = record { at = λ page e. false_not_true (sym (unset n page) ∙ e) }
+pub none_marked : (opened : List ℕ) (n : ℕ) → AreMarked opened (replicate n false) []
+none_marked opened n p h = unset n p
   where
-    unset : (n page : ℕ) → get_or (replicate n false) page false ≡ false
-    unset zero page = refl
+    unset : (n p : ℕ) → get_or (replicate n false) p false ≡ false
+    unset zero p = refl
     unset (suc n) zero = refl
-    unset (suc n) (suc page) = unset n page
+    unset (suc n) (suc p) = unset n p
 
--- pages that are listed, with two more
-pub two_more : (before middle after : List Bool) (pages : List ℕ) (p q : ℕ) → MarksWithin before pages
-    → ((page : ℕ) → get_or middle page false ≡ true → (page ≡ p) ⊎ (get_or before page false ≡ true))
-    → ((page : ℕ) → get_or after page false ≡ true → (page ≡ q) ⊎ (get_or middle page false ≡ true))
-    → MarksWithin after (pages ++ p ∷ q ∷ [])
-two_more before middle after pages p q marked one two = record {
-  at = λ page e.
-      ⊎_elim (λ (is : page ≡ q). contains-right pages (p ∷ q ∷ []) page (second page p q is))
-      (λ (m : get_or middle page false ≡ true). ⊎_elim (λ (is : page ≡ p). contains-right pages (p ∷ q ∷ []) page (first page p q is))
-      (λ (b : get_or before page false ≡ true). contains-left pages (p ∷ q ∷ []) page (marked.at page b)) (one page m)) (two page e);
-}
+or_assoc : (a b c : Bool) → (a || (b || c)) ≡ ((a || b) || c)
+or_assoc true b c = refl
+or_assoc false b c = refl
+
+pub contains-append : (ps qs : List ℕ) (p : ℕ) → contains (ps ++ qs) p ≡ (contains ps p || contains qs p)
+contains-append [] qs p = refl
+contains-append (r ∷ ps) qs p = ap (λ b. eqb p r || b) (contains-append ps qs p) ∙ or_assoc (eqb p r) (contains ps p) (contains qs p)
+
+-- a footprint is marked besides
+pub also_marked : (opened : List ℕ) (before after : List Bool) (pages foot : List ℕ) → ((p : ℕ) → IsTrue (contains opened p) → p < length before)
+    → AreMarked opened before pages → AreAlsoMarked before after foot → AreMarked opened after (pages ++ foot)
+also_marked opened before after pages foot within marked more p h =
+    more p (within p h) ∙ ap (λ b. b || contains foot p) (marked p h) ∙ sym (contains-append pages foot p)
+
+-- ---- setting marks one by one
+same_test : (p q : ℕ) (b : Bool) → eqb p q ≡ b → (eqb p q || false) ≡ b
+same_test p q true e = rw e refl
+same_test p q false e = rw e refl
+
+or_false : (b : Bool) → (b || false) ≡ b
+or_false true = refl
+or_false false = refl
+
+or_true : (b : Bool) → (b || true) ≡ true
+or_true true = refl
+or_true false = refl
+
+suc_test : (p q : ℕ) → eqb (suc p) (suc q) ≡ eqb p q
+suc_test p q = ⊎_elim (λ t. go t.1) (λ t. go_not t.1) (eqb_tells p q)
   where
-    same_test : (page p : ℕ) → page ≡ p → eqb page p ≡ true
-    same_test page p e = grind (arith, nat_tests)
+    go : p ≡ q → eqb (suc p) (suc q) ≡ eqb p q
+    go h = grind (arith, nat_tests)
 
-    first : (page p q : ℕ) → page ≡ p → IsTrue (contains (p ∷ q ∷ []) page)
-    first page p q is = or_left (eqb page p) _ (same_test page p is)
+    go_not : p ≢ q → eqb (suc p) (suc q) ≡ eqb p q
+    go_not h = grind (arith, nat_tests)
 
-    second : (page p q : ℕ) → page ≡ q → IsTrue (contains (p ∷ q ∷ []) page)
-    second page p q is = or_right (eqb page p) _ (or_left (eqb page q) _ (same_test page q is))
+set_there : (marks : List Bool) (q p : ℕ) → p < length marks → get_or (set marks q true) p false ≡ (get_or marks p false || (eqb p q || false))
+set_there [] q p h = absurd (omega arith)
+set_there (m ∷ marks) zero zero h = sym (or_true m)
+set_there (m ∷ marks) zero (suc p) h = let e : eqb (suc p) 0 ≡ false = grind (arith, nat_tests) in rw e (sym (or_false (get_or marks p false)))
+set_there (m ∷ marks) (suc q) zero h = let e : eqb 0 (suc q) ≡ false = grind (arith, nat_tests) in rw e (sym (or_false m))
+set_there (m ∷ marks) (suc q) (suc p) h =
+    let e : eqb (suc p) (suc q) ≡ eqb p q = suc_test p q in
+    set_there marks q p (omega arith) ∙ ap (λ b. get_or marks p false || (b || false)) (sym e)
 
--- one more page of which the test is false
-found_step : (f : ℕ → Bool) (page : ℕ) (fewer more : List ℕ) (b : Bool) → f page ≡ b → (find f fewer ≡ None → find f more ≡ None)
-    → cond b (Some page) (find f fewer) ≡ None → cond b (Some page) (find f more) ≡ None
-found_step f page fewer more true e rest none = absurd (cc)
-found_step f page fewer more false e rest none = rest none
+-- one more page of those that are marked
+pub mark_on : (old now : List Bool) (pages : List ℕ) (k p : ℕ) → p < length now → k < length pages
+    → get_or now p false ≡ (get_or old p false || contains (take k pages) p)
+    → get_or (set now (get_or pages k 0) true) p false ≡ (get_or old p false || contains (take (k + 1) pages) p)
+mark_on old now pages k p within h before =
+    let next : k + 1 ≡ suc k = omega arith in
+    set_there now (get_or pages k 0) p within
+    ∙ ap (λ b. b || (eqb p (get_or pages k 0) || false)) before
+    ∙ sym (or_assoc (get_or old p false) (contains (take k pages) p) (contains (get_or pages k 0 ∷ []) p))
+    ∙ ap (λ b. get_or old p false || b) (sym (contains-append (take k pages) (get_or pages k 0 ∷ []) p))
+    ∙ ap (λ ps. get_or old p false || contains ps p) (sym (take-suc pages k 0 h) ∙ ap (λ j. take j pages) (sym next))
 
-found_suc : (f : ℕ → Bool) (pages : List ℕ) (i : ℕ) → i < length pages → f (get_or pages i 0) ≡ false → find f (take i pages) ≡ None → find f (take (suc i) pages) ≡ None
-found_suc f [] i within test none = absurd (omega arith)
-found_suc f (page ∷ pages) zero within test none = rw test refl
-found_suc f (page ∷ pages) (suc i) within test none = found_step f page (take i pages) (take (suc i) pages) (f page) refl (found_suc f pages i (omega arith) test) none
+-- ---- the least open page that is in no footprint
+closed_same : (f g : ℕ → Bool) (qs : List ℕ) → ((p : ℕ) → IsTrue (contains qs p) → f p ≡ g p) → first_closed f qs ≡ first_closed g qs
+closed_same f g [] same = refl
+closed_same f g (q ∷ qs) same =
+    let test : eqb q q ≡ true = grind (arith, nat_tests) in
+    let first : f q ≡ g q = same q (or_left (eqb q q) (contains qs q) test) in
+    ap₂ (λ (b : Bool) (o : Option ℕ). cond (not b) (Some q) o) first (closed_same f g qs (λ p h. same p (or_right (eqb p q) (contains qs p) h)))
 
-pub found_more : (f : ℕ → Bool) (pages : List ℕ) (i : ℕ) → i < length pages → find f (take i pages) ≡ None → f (get_or pages i 0) ≡ false → find f (take (i + 1) pages) ≡ None
-found_more f pages i within none test = rw add-one (found_suc f pages i within test none)
-
--- where all pages are marked, none is in no footprint
-idle_step : (marks : List Bool) (touched : List ℕ) (page : ℕ) (pages : List ℕ) (b : Bool) → MarksWithin marks touched → get_or marks page false ≡ b
-    → (find (λ p. not (get_or marks p false)) pages ≡ None → find (λ p. not (contains touched p)) pages ≡ None)
-    → cond (not b) (Some page) (find (λ p. not (get_or marks p false)) pages) ≡ None
-    → cond (not (contains touched page)) (Some page) (find (λ p. not (contains touched p)) pages) ≡ None
-idle_step marks touched page pages true within e rest g =
-    ap (λ (b : Bool). cond (not b) (Some page) (find (λ p. not (contains touched p)) pages)) (within.at page e) ∙ rest g
-idle_step marks touched page pages false within e rest g = absurd (cc)
-
-pub none_idle : (marks : List Bool) (touched pages : List ℕ) → MarksWithin marks touched → find (λ page. not (get_or marks page false)) pages ≡ None
-    → find (λ page. not (contains touched page)) pages ≡ None
-none_idle marks touched [] within h = refl
-none_idle marks touched (page ∷ pages) within h = idle_step marks touched page pages (get_or marks page false) within refl (none_idle marks touched pages within) h
+pub idle_same : (opened : List ℕ) (marks : List Bool) (touched : List ℕ) → AreMarked opened marks touched
+    → first_closed (λ p. get_or marks p false) opened ≡ first_closed (contains touched) opened
+idle_same opened marks touched marked = closed_same _ _ opened marked

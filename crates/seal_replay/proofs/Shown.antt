@@ -1,21 +1,21 @@
--- What a bus over a part tree shows.
-use Rattle.std.proofs.Common.{◌≡◌, ℕ, ◌+◌, ◌*◌, ◌/◌, ◌%◌, ◌<◌, Bool, true, false, List, get_or, Option, Some, None, refl, sym, ap, ap₂, ◌∙◌, arith}
-use Rattle.std.specs.Prelude.{is_some, option_map, unwrap_or}
-use Rattle.page_core.specs.Memory.{bytes, number_of, contains}
+-- The open pages of a tree as a bus shows them.
+use Rattle.std.proofs.Common.{◌≡◌, ◌≢◌, ℕ, zero, suc, ◌+◌, ◌/◌, ◌%◌, ◌<◌, Bool, true, false, List, [], ◌∷◌, get_or, length, take, Option, Some, None, refl, sym, ap, ◌∙◌, arith, cond, ◌||◌, eqb, IsTrue, ⊎_elim}
+use Rattle.std.specs.Prelude.{is_some, unwrap_or}
+use Rattle.std.proofs.lemmas.Bool.Decides.{nat_tests, eqb_tells}
+use Rattle.page_core.specs.Memory.{contains}
 use Rattle.page_core.specs.Pages.{zero_page}
 use Rattle.page_core.specs.Memories.{flat}
-use Rattle.page_core.proofs.Listed.{contains_tells, tells_contains}
-use Rattle.part_tree.specs.Part.{Part, opened, page_at, fill}
-use Rattle.part_tree.proofs.Pages.{opened_open, open_opened}
+use Rattle.page_core.proofs.Listed.{contains_tells, tells_contains, or_left, or_right}
+use Rattle.part_tree.specs.Part.{Part, IsPart, opened, page_at, fill}
+use Rattle.part_tree.proofs.Pages.{opened_open, open_opened, open_below}
+use Rattle.rv_step.specs.Opened.{page_in, pages_in}
+use Rattle.std.proofs.Math.Seq.{take-suc, take-length}
+use Rattle.seal_replay.proofs.Marked.{contains-append}
 
 same_truth : (a b : Bool) → (a ≡ true → b ≡ true) → (b ≡ true → a ≡ true) → a ≡ b
 same_truth true b f g = sym (f refl)
 same_truth false true f g = g refl
 same_truth false false f g = refl
-
-mapped : {A B : Type 0} (f : A → B) (o : Option A) → is_some (option_map f o) ≡ is_some o
-mapped f (Some x) = refl
-mapped f None = refl
 
 -- a page is there exactly where it is listed as open
 pub open_listed : (t : Part) (page : ℕ) → is_some (page_at 0 t page) ≡ contains (opened 0 t) page
@@ -24,41 +24,70 @@ open_listed t page =
     (λ e. tells_contains (opened 0 t) page (open_opened 0 t page e))
     (λ e. opened_open 0 t page (contains_tells (opened 0 t) page e))
 
-pub found_listed : {A : Type 0} (f : A → List ℕ) (o : Option A) (t : Part) (page : ℕ) → option_map f o ≡ page_at 0 t page → is_some o ≡ contains (opened 0 t) page
-found_listed f o t page e = sym (mapped f o) ∙ ap is_some e ∙ open_listed t page
+-- the number of an open page
+pub open_number : (t : Part) (page : ℕ) → IsPart 18 t → IsTrue (contains (opened 0 t) page) → page < 262144
+open_number t page shape h =
+    let below = open_below 18 0 page t shape (opened_open 0 t page (contains_tells (opened 0 t) page h)) in omega (arith, below)
 
--- a byte of an open page
-byte_shown : (t : Part) (page : List ℕ) (a k : ℕ) → page_at 0 t (a / 1024) ≡ Some page → a % 4 ≡ 0 → k < 4
-    → flat (fill t) (a + k) ≡ get_or page (a % 1024 + k) 0
-byte_shown t page a k found aligned low =
-    let number : (a + k) / 1024 ≡ a / 1024 = omega arith in
-    let place : (a + k) % 1024 ≡ a % 1024 + k = omega arith in
-    ap₂ (λ n p. get_or (unwrap_or (page_at 0 t n) zero_page) p 0) number place
-    ∙ ap (λ (o : Option (List ℕ)). get_or (unwrap_or o zero_page) (a % 1024 + k) 0) found
+-- pages that are the tree's show the tree's memory
+module _ (t : Part) (pages : List (Option (List ℕ))) (same : (number : ℕ) → page_in pages number ≡ page_at 0 t number) where
+  pub opens_same : (λ page. is_some (page_in pages page)) ≡ contains (opened 0 t)
+  opens_same = λ i page. (ap is_some (same page) ∙ open_listed t page) i
 
-four : (m : ℕ → ℕ) (a : ℕ) → number_of (bytes m a 4) ≡ m a + 256 * (m (a + 1) + 256 * (m (a + 2) + 256 * (m (a + 3) + 256 * 0)))
-unfolding bytes number_of
-four m a =
-    let two : a + 1 + 1 ≡ a + 2 = omega arith in
-    let three : a + 1 + 1 + 1 ≡ a + 3 = omega arith in
-    ap₂ (λ j k. m a + 256 * (m (a + 1) + 256 * (m j + 256 * (m k + 256 * 0)))) two three
+  pub memory_same : flat (pages_in pages) ≡ flat (fill t)
+  memory_same = λ i a. get_or (unwrap_or (same (a / 1024) i) zero_page) (a % 1024) 0
 
--- the word at an aligned address of an open page
-pub word_shown : (t : Part) (page : List ℕ) (a w : ℕ) → page_at 0 t (a / 1024) ≡ Some page → a % 4 ≡ 0
-    → w ≡ get_or page (a % 1024) 0 + 256 * (get_or page (a % 1024 + 1) 0 + 256 * (get_or page (a % 1024 + 2) 0 + 256 * (get_or page (a % 1024 + 3) 0 + 256 * 0)))
-    → w ≡ number_of (bytes (flat (fill t)) a 4)
-word_shown t page a w found aligned is =
-    let m = flat (fill t) in
-    let zero : m a ≡ get_or page (a % 1024) 0 = ap m (sym (add-zero-here a)) ∙ byte_shown t page a 0 found aligned (omega arith) ∙ ap (λ (k : ℕ). get_or page k 0) (add-zero-here (a % 1024)) in
-    let one = byte_shown t page a 1 found aligned (omega arith) in
-    let two = byte_shown t page a 2 found aligned (omega arith) in
-    let three = byte_shown t page a 3 found aligned (omega arith) in
-    is ∙ sym (four m a ∙ rw (zero, one, two, three) refl)
+-- ---- opening them one by one
+contains_item : (xs : List ℕ) (k : ℕ) → k < length xs → IsTrue (contains xs (get_or xs k 0))
+contains_item [] k h = absurd (omega arith)
+contains_item (x ∷ xs) zero h = or_left (eqb x x) (contains xs x) (grind (arith, nat_tests))
+contains_item (x ∷ xs) (suc k) h = or_right (eqb (get_or xs k 0) x) (contains xs (get_or xs k 0)) (contains_item xs k (omega arith))
+
+module _ (t : Part) (numbers : List ℕ) (k : ℕ) (shape : IsPart 18 t) (listed : numbers ≡ opened 0 t) (within : k < length numbers) where
+  is_listed : IsTrue (contains (opened 0 t) (get_or numbers k 0))
+  is_listed = ap (λ (xs : List ℕ). contains xs (get_or numbers k 0)) (sym listed) ∙ contains_item numbers k within
+
+  pub item_number : get_or numbers k 0 < 262144
+  item_number = open_number t (get_or numbers k 0) shape is_listed
+
+  pub item_open : page_at 0 t (get_or numbers k 0) ≡ None → ⊥
+  item_open e = not_both (sym (ap is_some e) ∙ open_listed t (get_or numbers k 0) ∙ is_listed)
+    where
+      not_both : false ≡ true → ⊥
+      not_both h = cc
+
+-- one more page of those that are open so far
+pub opened_on : (f g h : ℕ → Option (List ℕ)) (numbers : List ℕ) (k : ℕ) (page : List ℕ) → k < length numbers → f (get_or numbers k 0) ≡ Some page
+    → ((n : ℕ) → g n ≡ cond (contains (take k numbers) n) (f n) None) → h (get_or numbers k 0) ≡ Some page
+    → ((n : ℕ) → n ≢ get_or numbers k 0 → h n ≡ g n) → (n : ℕ) → h n ≡ cond (contains (take (k + 1) numbers) n) (f n) None
+opened_on f g h numbers k page within found before here others n =
+    ⊎_elim
+    (λ t. ap h t.1 ∙ here ∙ sym found ∙ ap f (sym t.1) ∙ ap (λ b. cond b (f n) None) (sym (listed ∙ ap (λ b. contains (take k numbers) n || (b || false)) t.0 ∙ last_true (contains (take k numbers) n))))
+    (λ t. others n t.1 ∙ before n ∙ ap (λ b. cond b (f n) None) (sym (listed ∙ ap (λ b. contains (take k numbers) n || (b || false)) t.0 ∙ last_false (contains (take k numbers) n))))
+    (eqb_tells n (get_or numbers k 0))
   where
-    add-zero-here : (n : ℕ) → n + 0 ≡ n
-    add-zero-here n = omega arith
+    next : k + 1 ≡ suc k
+    next = omega arith
 
--- what is listed as open is there
-pub not_missing : {A : Type 0} (o : Option A) (b : Bool) → is_some o ≡ b → b ≡ true → o ≡ None → ⊥
-not_missing (Some x) b e f g = cc
-not_missing None b e f g = cc
+    listed : contains (take (k + 1) numbers) n ≡ (contains (take k numbers) n || (eqb n (get_or numbers k 0) || false))
+    listed = ap (λ j. contains (take j numbers) n) next ∙ ap (λ xs. contains xs n) (take-suc numbers k 0 within) ∙ contains-append (take k numbers) (get_or numbers k 0 ∷ []) n
+
+    last_true : (b : Bool) → (b || (true || false)) ≡ true
+    last_true true = refl
+    last_true false = refl
+
+    last_false : (b : Bool) → (b || (false || false)) ≡ b
+    last_false true = refl
+    last_false false = refl
+
+-- all of them
+pub opened_all : (t : Part) (numbers : List ℕ) (k : ℕ) (pages : List (Option (List ℕ))) → numbers ≡ opened 0 t → k ≡ length numbers
+    → ((n : ℕ) → page_in pages n ≡ cond (contains (take k numbers) n) (page_at 0 t n) None) → (n : ℕ) → page_in pages n ≡ page_at 0 t n
+opened_all t numbers k pages listed all before n =
+    before n
+    ∙ ap (λ xs. cond (contains xs n) (page_at 0 t n) None) (ap (λ j. take j numbers) all ∙ take-length numbers ∙ listed)
+    ∙ ap (λ b. cond b (page_at 0 t n) None) (sym (open_listed t n)) ∙ itself (page_at 0 t n)
+  where
+    itself : (o : Option (List ℕ)) → cond (is_some o) o None ≡ o
+    itself (Some x) = refl
+    itself None = refl

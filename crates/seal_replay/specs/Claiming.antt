@@ -3,7 +3,8 @@ use Rattle.std.specs.Prelude.{ℕ, List, Option, Some, None, option_map}
 use Rattle.rv_step.specs.Machine.{State, full}
 use Rattle.claim_types.specs.declared.claim.Exit.{Exit}
 use Rattle.claim_types.specs.declared.claim.Exit.TheVariants.{Split, Halted as HaltedWith}
-use Rattle.seal_replay.specs.Replay.{Stop, stop_of, ending}
+use Rattle.seal_replay.specs.Replay.{stop_of, ending}
+use Rattle.seal_replay.specs.declared.stop.ReplayStop.{ReplayStop}
 use Rattle.part_tree.specs.Part.{Part, root_of, put}
 use Rattle.page_core.specs.Memories.{page_of}
 use Rattle.claim_types.specs.declared.state.State.{State as SystemState}
@@ -29,7 +30,7 @@ abbrev pub claim_at : (List ℕ → List ℕ) → Seal → Exit × State → Spa
 claim_at H seal e = record { before = before_of H seal; after = after_of H seal e; exit = e.0; journal = e.1.journal; calls = e.1.calls }
 
 -- a value where there is no stop
-abbrev pub unless : {A : Type 0} → Option Stop → Option A → Option A
+abbrev pub unless : {A : Type 0} → Option ReplayStop → Option A → Option A
 unless None o = o
 unless (Some stop) o = None
 

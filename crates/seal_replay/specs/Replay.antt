@@ -1,5 +1,5 @@
 -- Replay: a seal's stretch of a run over the pages that its tree opens, and where it stops.
-use Rattle.std.specs.Prelude.{ℕ, zero, suc, ◌+◌, ◌-◌, not, cond, eqb, List, [], ◌∷◌, length, find, Option, Some, None, option_and_then}
+use Rattle.std.specs.Prelude.{ℕ, zero, suc, ◌+◌, ◌-◌, Bool, cond, eqb, List, [], ◌∷◌, length, Option, Some, None, option_and_then}
 use Rattle.rv_isa.specs.declared.fault.Fault.{Fault}
 use Rattle.page_core.specs.Memory.{top, bytes, number_of, contains}
 use Rattle.rv_step.specs.Machine.{State, Event, Went, Halted, Faulted, step_of, foot_of, first_closed}
@@ -9,6 +9,8 @@ use Rattle.part_tree.specs.Part.{opened, fill}
 use Rattle.claim_types.specs.declared.claim.Exit.{Exit}
 use Rattle.claim_types.specs.declared.claim.Exit.TheVariants.{Split, Halted as HaltedWith}
 use Rattle.receipt_types.specs.Seals.{Seal}
+use Rattle.seal_replay.specs.declared.stop.ReplayStop.{ReplayStop}
+use Rattle.seal_replay.specs.declared.stop.ReplayStop.TheVariants as Stop
 use Rattle.std.specs.Option.{option_or}
 
 -- the memory that a seal shows: its open pages, and zeros elsewhere
@@ -33,37 +35,22 @@ abbrev pub enter : Seal → State
 enter seal =
     record { pc = seal.pc; x = registers_in (memory_of seal); memory = memory_of seal; words = seal.words; journal = []; calls = [] }
 
--- why a replay stops: for one step the first four in this order, and at the end the last two
-pub data Stop : Type 0 where
-  -- the first page of the step's footprint that isn't open
-  Unopened : (step page : ℕ) → Stop
-  -- the step faults, but not for want of words
-  Stopped : (step : ℕ) (fault : Fault) → Stop
-  -- the step reads more words than are left
-  WordsShort : (step : ℕ) → Stop
-  -- the step halts and isn't the last
-  EndsEarly : (step : ℕ) → Stop
-  -- so many words are left, at least one
-  WordsLeft : (count : ℕ) → Stop
-  -- the least open page in no footprint
-  Idle : (page : ℕ) → Stop
+-- ---- the stop of one step: step k, from the state s, among `steps`, over the pages that are open
+abbrev pub fault_stop : ℕ → Fault → ReplayStop
+fault_stop k Fault.InputEnd = Stop.WordsShort k
+fault_stop k fault = Stop.Fault k fault
 
--- ---- the stop of one step: step k, from the state s, among `steps`
-abbrev pub fault_stop : ℕ → Fault → Stop
-fault_stop k Fault.InputEnd = WordsShort k
-fault_stop k fault = Stopped k fault
-
-abbrev pub event_stop : ℕ → ℕ → Event → Option Stop
+abbrev pub event_stop : ℕ → ℕ → Event → Option ReplayStop
 event_stop steps k (Went t) = None
-event_stop steps k (Halted code) = cond (eqb (k + 1) steps) None (Some (EndsEarly k))
+event_stop steps k (Halted code) = cond (eqb (k + 1) steps) None (Some (Stop.EndsEarly k))
 event_stop steps k (Faulted fault) = Some (fault_stop k fault)
 
-abbrev pub page_stop : ℕ → Option ℕ → Option Stop
-page_stop k (Some page) = Some (Unopened k page)
+abbrev pub page_stop : ℕ → Option ℕ → Option ReplayStop
+page_stop k (Some page) = Some (Stop.Unopened k page)
 page_stop k None = None
 
-abbrev pub stop_at : List ℕ → ℕ → ℕ → State → Option Stop
-stop_at opened steps k s = option_or (page_stop k (first_closed (contains opened) (foot_of s))) (event_stop steps k (step_of s))
+abbrev pub stop_at : (ℕ → Bool) → ℕ → ℕ → State → Option ReplayStop
+stop_at opens steps k s = option_or (page_stop k (first_closed opens (foot_of s))) (event_stop steps k (step_of s))
 
 -- ---- the stop of a seal
 -- the first that f gives of its values below n
@@ -71,8 +58,8 @@ unfoldable pub first_below : {A : Type 0} → (ℕ → Option A) → ℕ → Opt
 first_below f zero = None
 first_below f (suc n) = option_or (first_below f n) (f n)
 
-unfoldable pub step_stop : Seal → ℕ → Option Stop
-step_stop seal k = option_and_then (stop_at (opened_by seal) seal.steps k) (after (enter seal) k)
+unfoldable pub step_stop : Seal → ℕ → Option ReplayStop
+step_stop seal k = option_and_then (stop_at (contains (opened_by seal)) seal.steps k) (after (enter seal) k)
 
 -- how a seal's steps end, with the state there; a halt changes none
 abbrev pub halting : State → Event → Option (Exit × State)
@@ -88,15 +75,15 @@ ending seal =
     option_or (option_and_then split (after (enter seal) seal.steps))
     (option_and_then (λ s. halting s (step_of s)) (after (enter seal) (seal.steps - 1)))
 
-abbrev pub words_stop : Exit × State → Option Stop
-words_stop e = cond (eqb (length e.1.words) 0) None (Some (WordsLeft (length e.1.words)))
+abbrev pub words_stop : Exit × State → Option ReplayStop
+words_stop e = cond (eqb (length e.1.words) 0) None (Some (Stop.WordsLeft (length e.1.words)))
 
-abbrev pub idle_stop : Option ℕ → Option Stop
-idle_stop (Some page) = Some (Idle page)
+abbrev pub idle_stop : Option ℕ → Option ReplayStop
+idle_stop (Some page) = Some (Stop.Idle page)
 idle_stop None = None
 
-unfoldable pub stop_of : Seal → Option Stop
+unfoldable pub stop_of : Seal → Option ReplayStop
 stop_of seal =
     option_or (first_below (step_stop seal) seal.steps)
     (option_or (option_and_then words_stop (ending seal))
-    (idle_stop (find (λ p. not (contains (touched (enter seal) seal.steps) p)) (opened_by seal))))
+    (idle_stop (first_closed (contains (touched (enter seal) seal.steps)) (opened_by seal))))

@@ -1,40 +1,48 @@
--- What the replay of a seal finds, step by step.
-use Rattle.std.specs.Prelude.{◌≡◌, ℕ, ◌-◌, ◌<◌, Bool, true, false, List, [], Some, None, slice_index_or, IsTrue}
+-- How far a replay has come, and how it ends.
+use Rattle.std.specs.Prelude.{◌≡◌, ℕ, ◌<◌, ◌||◌, Bool, false, List, [], length, slice_index_or, Some, None, IsTrue}
 use Rattle.page_core.specs.Memory.{contains}
-use Rattle.rv_step.specs.declared.place.Core.{Core}
-use Rattle.rv_step.specs.Machine.{State, Halted, step_of}
+use Rattle.page_core.specs.Memories.{flat}
+use Rattle.rv_step.specs.Machine.{State, Went, Halted, step_of}
 use Rattle.rv_step.specs.Runs.{after, touched}
-use Rattle.rv_step.specs.Stepping.{state_at}
-use Rattle.claim_types.specs.declared.claim.Exit.TheVariants.{Halted as HaltedWith}
+use Rattle.rv_step.specs.Opened.{pages_in}
+use Rattle.rv_step.specs.declared.stepping.Event.{Event as StepEvent}
+use Rattle.rv_step.specs.declared.stepping.Event.TheVariants as E
+use Rattle.claim_types.specs.declared.claim.Exit.{Exit}
 use Rattle.receipt_types.specs.Seals.{Seal}
-use Rattle.seal_replay.specs.Replay.{memory_of, enter, step_stop, first_below, stop_of, ending}
+use Rattle.seal_replay.specs.Replay.{opened_by, enter, stop_at, step_stop, first_below, stop_of, ending}
+use Rattle.seal_replay.specs.declared.replaying.Replayed.{Replayed}
 
--- the state of a replay that has read no word and said nothing
-abbrev pub plain_state : Seal → Core → State
-plain_state seal core = state_at core (memory_of seal) (record { words = seal.words; journal = []; calls = [] })
+-- of the open pages those are marked that are among these
+abbrev pub AreMarked : List ℕ → List Bool → List ℕ → Type 0
+AreMarked opened marks pages = (p : ℕ) → IsTrue (contains opened p) → slice_index_or marks p false ≡ contains pages p
 
--- each page that is marked is one of these
-pub record MarksWithin (marks : List Bool) (pages : List ℕ) : Type 0 where
-  pub at : (page : ℕ) → slice_index_or marks page false ≡ true → IsTrue (contains pages page)
+-- these pages are marked besides
+abbrev pub AreAlsoMarked : List Bool → List Bool → List ℕ → Type 0
+AreAlsoMarked before after pages = (p : ℕ) → p < length before → slice_index_or after p false ≡ (slice_index_or before p false || contains pages p)
 
--- the first k steps went, none of them stops the replay, and what is marked was touched
-pub record HasGone (seal : Seal) (core : Core) (marks : List Bool) (k : ℕ) : Type 0 where
-  pub reached : after (enter seal) k ≡ Some (plain_state seal core)
+-- step k leads from s to t with this event, and nothing stops it
+abbrev pub IsEvent : (ℕ → Bool) → ℕ → ℕ → State → State → StepEvent → Type 0
+IsEvent opens steps k s t E.Went = (stop_at opens steps k s ≡ None) × (step_of s ≡ Went t)
+IsEvent opens steps k s t (E.Halted code) = (stop_at opens steps k s ≡ None) × (step_of s ≡ Halted code) × (t ≡ s)
+
+-- the first k steps went and none of them stops the replay
+pub record HasGone (seal : Seal) (s : State) (marks : List Bool) (k : ℕ) : Type 0 where
+  pub reached : after (enter seal) k ≡ Some s
   pub clean : first_below (step_stop seal) k ≡ None
-  pub marked : MarksWithin marks (touched (enter seal) k)
+  pub marked : AreMarked (opened_by seal) marks (touched (enter seal) k)
 
--- all steps but the last went, the last one halts, none of them stops the replay, and what is marked was touched
-pub record HaltsLast (seal : Seal) (core : Core) (marks : List Bool) (code : ℕ) : Type 0 where
-  pub reached : after (enter seal) (seal.steps - 1) ≡ Some (plain_state seal core)
-  pub halts : step_of (plain_state seal core) ≡ Halted code
-  pub some_steps : 0 < seal.steps
+-- all steps are done with this exit, and none of them stops the replay
+pub record HasEnded (seal : Seal) (exit : Exit) (s : State) (marks : List Bool) : Type 0 where
+  pub ends : ending seal ≡ Some (exit, s)
   pub clean : first_below (step_stop seal) seal.steps ≡ None
-  pub marked : MarksWithin marks (touched (enter seal) seal.steps)
+  pub marked : AreMarked (opened_by seal) marks (touched (enter seal) seal.steps)
 
--- the replay has no stop and halts with this code, having said nothing
-pub record HaltsPlainly (seal : Seal) (code : ℕ) : Type 0 where
+-- the state where a replay ended, with no word left
+abbrev pub state_of : Replayed → State
+state_of r =
+    record { pc = r.core.pc; x = r.core.regs; memory = flat (pages_in r.pages); words = []; journal = r.log.journal; calls = r.log.calls }
+
+-- nothing stops the replay, and it ends so
+pub record EndsSo (seal : Seal) (r : Replayed) : Type 0 where
   pub clean : stop_of seal ≡ None
-  pub state : State
-  pub ends : ending seal ≡ Some (HaltedWith code, state)
-  pub no_journal : state.journal ≡ []
-  pub no_calls : state.calls ≡ []
+  pub ends : ending seal ≡ Some (r.exit, state_of r)

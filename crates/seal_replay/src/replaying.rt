@@ -1,108 +1,154 @@
-ghost use Rattle.std.specs.Prelude.{◌≡◌, ◌%◌, [], IfOk, IfErr, IsTrue, ◌≤◌};
+ghost use Rattle.std.specs.Prelude.{◌≡◌, ℕ, ◌+◌, ◌-◌, ◌<◌, ◌%◌, ◌==◌, ◌⊎◌, [], length, IfOk, IfErr, IsTrue, Some, None};
 ghost use Rattle.page_core.specs.Memory.{contains};
-ghost use Rattle.page_core.specs.Memories.{flat};
-ghost use Rattle.part_tree.specs.Part.{IsPart, opened, fill};
-ghost use Rattle.seal_replay.specs.Replay.{registers_in, enter};
-ghost use Rattle.seal_replay.specs.declared.replaying.ReplayStop.TheVariants.{Memory};
-ghost use Rattle.seal_replay.specs.Replaying.{plain_state, HaltsLast, HaltsPlainly, MarksWithin};
+ghost use Rattle.part_tree.specs.Part.{IsPart};
+ghost use Rattle.rv_step.specs.Machine.{first_closed, foot_of, step_of};
+ghost use Rattle.rv_step.specs.Tapes.{Log};
+ghost use Rattle.rv_step.specs.Stepping.{state_at};
+ghost use Rattle.seal_replay.specs.declared.stop.ReplayStop.TheVariants.{Memory};
+ghost use Rattle.seal_replay.specs.Replay.{opened_by, memory_of, enter, registers_in, stop_at, step_stop, first_below, stop_of};
+ghost use Rattle.seal_replay.specs.Replaying.{AreMarked, AreAlsoMarked, IsEvent, HasGone, HasEnded, EndsSo};
 
-use crate::bus::TreeBus;
-use crate::marks::{all_marked, mark, unmarked};
+use crate::entering::{open_pages, registers};
+use crate::marks::{first_unmarked, mark_all, unmarked};
+use crate::stop::ReplayStop;
+use byte_cursor::WordList;
+use claim_types::Exit;
 use receipt_types::Seal;
-use rv_isa::Regs;
-use rv_step::{Bus, Core, Event, step};
+use rv_isa::Fault;
+use rv_step::{Bus, Core, Event, OpenPages, RunLog, StepStop, WordTape, look, step};
 use std::alloc::{AllocError, Global};
 
-// The number of the register page, and its address.
-const REGISTER_PAGE: u32 = 262_143;
-
-const TOP: u32 = 0x0FFF_FC00;
-
-/// Why a seal was not replayed to its end.
-#[derive(Clone, Copy, Debug, PartialEq, Eq)]
-pub enum ReplayStop {
-    /// The replay stopped at this step: its footprint isn't open, its instruction is none of LUI, ADDI
-    /// and ECALL with 0 in x17, it faults, or it halts and isn't the last. The number is that of the
-    /// seal's steps where the last step went or an open page is in no footprint. The contract doesn't
-    /// say yet where this comes.
-    NotBuilt { step: u32 },
-    /// There was no memory.
-    Memory,
+/// Where a replay ended that nothing stopped.
+#[derive(Drop)]
+pub struct Replayed {
+    /// Whether its last step went or halted.
+    pub exit: Exit,
+    /// The pc and the registers; a halt changes none.
+    pub core: Core,
+    /// The open pages.
+    pub pages: OpenPages,
+    /// What it said.
+    pub log: RunLog,
 }
 
-impl From<AllocError> for ReplayStop {
-    ghost from_gives = { λ _ stop. stop ≡ Memory };
-
-    fn from(_error: AllocError) -> ReplayStop {
-        ReplayStop::Memory
-    }
-}
-
-// The registers that an open register page shows.
-fn registers(bus: &TreeBus) -> Regs
-    requires { IsTrue (contains (opened 0 bus.now) 262143) }
-    ensures { result ≡ registers_in (flat (fill bus.now)) }
+// Marks the pages that the next step touches, where they are open.
+fn mark_touched<B: Bus>(core: &Core, bus: &B, tape: &WordTape, marks: &mut [bool])
+    requires { core.now.pc % 4 ≡ 0 }
+    ensures size { length marks.new ≡ length marks.old }
+    ensures marks { (log : Log) → first_closed (B.opens bus.now) (foot_of (state_at core.now (B.byte_at bus.now) tape.now log)) ≡ None → AreAlsoMarked marks.old marks.new (foot_of (state_at core.now (B.byte_at bus.now) tape.now log)) }
 {
-    let mut regs = Regs::new();
-    for n in 1..32u8 {
-        regs.set(n, bus.load_word(TOP + 4 * u32::from(n)));
-    }
-    regs
+    let Ok(looked) = look(core, bus, tape) else {
+        return;
+    };
+    mark_all(marks, looked.foot.pages());
 }
 
-// Does a seal's steps, marks the pages that they touch, and tells the exit code of the last, or the
-// first step that can't be done.
-fn run(seal: &Seal, bus: &TreeBus, core: &mut Core, marks: &mut [bool]) -> Result<u32, u32>
-    requires bus { bus.now ≡ seal.now.tree }
+// One step of a replay over the pages that are open, whose touched pages are marked.
+fn replay_step<B: Bus>(
+    number: u32,
+    steps: u32,
+    core: &mut Core,
+    bus: &mut B,
+    tape: &mut WordTape,
+    log: &mut RunLog,
+    marks: &mut [bool],
+) -> Result<Event, ReplayStop>
     requires aligned { core.old.pc % 4 ≡ 0 }
-    requires enters { enter seal.now ≡ plain_state seal.now core.old }
-    requires unmarked { MarksWithin marks.old [] }
-    ensures { IfOk result (λ code. HaltsLast seal.now core.new marks.new code) }
+    requires last { number < steps }
+    ensures aligned { core.new.pc % 4 ≡ 0 }
+    ensures same_pages { B.opens bus.new ≡ B.opens bus.old }
+    ensures same_words { tape.new.words ≡ tape.old.words }
+    ensures event { IfOk result (λ event. IsEvent (B.opens bus.old) steps number (state_at core.old (B.byte_at bus.old) tape.old log.old) (state_at core.new (B.byte_at bus.new) tape.new log.new) event) }
+    ensures stop { IfErr result (λ stop. (stop ≡ Memory) ⊎ (stop_at (B.opens bus.old) steps number (state_at core.old (B.byte_at bus.old) tape.old log.old) ≡ Some stop)) }
+    ensures size { length marks.new ≡ length marks.old }
+    ensures marks { IfOk result (λ event. AreAlsoMarked marks.old marks.new (foot_of (state_at core.old (B.byte_at bus.old) tape.old log.old))) }
 {
-    for k in 0..seal.steps {
-        mark(marks, REGISTER_PAGE);
-        mark(marks, core.pc / 1024);
-        match step(core, bus) {
-            Ok(Event::Went) => {}
-            Ok(Event::Halted(code)) => {
-                return if k + 1 == seal.steps {
-                    Ok(code)
-                } else {
-                    Err(k)
-                };
+    mark_touched(core, bus, tape, marks);
+    match step(core, bus, tape, log) {
+        Ok(Event::Went) => Ok(Event::Went),
+        Ok(Event::Halted(code)) => {
+            if number + 1 == steps {
+                Ok(Event::Halted(code))
+            } else {
+                Err(ReplayStop::EndsEarly { step: number })
             }
-            Err(_) => return Err(k),
+        }
+        Err(StepStop::Miss(page)) => Err(ReplayStop::Unopened { step: number, page }),
+        Err(StepStop::Fault(Fault::InputEnd)) => Err(ReplayStop::WordsShort { step: number }),
+        Err(StepStop::Fault(fault)) => Err(ReplayStop::Fault {
+            step: number,
+            fault,
+        }),
+        Err(StepStop::Memory) => Err(ReplayStop::Memory),
+    }
+}
+
+// Does a seal's steps, and tells how they end.
+fn run<B: Bus>(
+    seal: &Seal,
+    core: &mut Core,
+    bus: &mut B,
+    tape: &mut WordTape,
+    log: &mut RunLog,
+    marks: &mut [bool],
+) -> Result<Exit, ReplayStop>
+    requires aligned { core.old.pc % 4 ≡ 0 }
+    requires opens { B.opens bus.old ≡ contains (opened_by seal.now) }
+    requires enters { enter seal.now ≡ state_at core.old (B.byte_at bus.old) tape.old log.old }
+    requires size { (p : ℕ) → IsTrue (contains (opened_by seal.now) p) → p < length marks.old }
+    requires unmarked { AreMarked (opened_by seal.now) marks.old [] }
+    ensures ended { IfOk result (λ exit. HasEnded seal.now exit (state_at core.new (B.byte_at bus.new) tape.new log.new) marks.new) }
+    ensures stop { IfErr result (λ stop. (stop ≡ Memory) ⊎ (first_below (step_stop seal.now) seal.now.steps ≡ Some stop)) }
+{
+    for number in 0..seal.steps {
+        match replay_step(number, seal.steps, core, bus, tape, log, marks)? {
+            Event::Went => {}
+            Event::Halted(code) => return Ok(Exit::Halted(code)),
         }
     }
-    Err(seal.steps)
+    Ok(Exit::Split)
 }
 
-/// Replays a seal without input words, whose pc is a multiple of 4 and whose tree has its shape, and
-/// tells the exit code with which its last step halts.
-pub fn replay(alloc: Global, seal: &Seal) -> Result<u32, ReplayStop>
+// The input words of a seal, as a tape.
+fn tape_of(alloc: Global, words: &WordList) -> Result<WordTape, AllocError>
+    ensures { IfOk result (λ tape. tape ≡ record { words = words.now.items; used = 0 }) }
+{
+    let mut copy = WordList::new(alloc);
+    copy.extend(words.as_slice())?;
+    Ok(WordTape::new(copy))
+}
+
+/// Replays a seal, whose pc is a multiple of 4 and whose tree has its shape, over the pages that its
+/// tree opens: the registers are those of the register page. Ok and each stop but Memory come exactly
+/// where the definition of the stops says so.
+pub fn replay(alloc: Global, seal: &Seal) -> Result<Replayed, ReplayStop>
     requires aligned { seal.now.pc % 4 ≡ 0 }
     requires shape { IsPart 18 seal.now.tree }
-    requires no_words { seal.now.words ≡ [] }
-    ensures { IfOk result (λ code. HaltsPlainly seal.now code) }
+    ensures ended { IfOk result (λ replayed. EndsSo seal.now replayed) }
+    ensures stop { IfErr result (λ stop. (stop ≡ Memory) ⊎ (stop_of seal.now ≡ Some stop)) }
 {
-    let bus = TreeBus::new(&seal.tree);
-    if !bus.is_open(REGISTER_PAGE) {
-        return Err(ReplayStop::NotBuilt { step: 0 });
-    }
+    let numbers = seal.tree.opened(alloc)?;
+    let mut pages = open_pages(alloc, &seal.tree, numbers.as_slice())?;
     let mut core = Core {
         pc: seal.pc,
-        regs: registers(&bus),
+        regs: registers(&pages),
     };
-    let mut marks = unmarked(alloc)?;
-    match run(seal, &bus, &mut core, marks.as_mut_slice()) {
-        Err(step) => Err(ReplayStop::NotBuilt { step }),
-        Ok(code) => {
-            let pages = seal.tree.opened(alloc)?;
-            if all_marked(marks.as_slice(), pages.as_slice()) {
-                Ok(code)
-            } else {
-                Err(ReplayStop::NotBuilt { step: seal.steps })
-            }
-        }
+    let mut tape = tape_of(alloc, &seal.words)?;
+    let mut log = RunLog::new(alloc);
+    let mut unset = unmarked(alloc)?;
+    let marks = unset.as_mut_slice();
+    let exit = run(seal, &mut core, &mut pages, &mut tape, &mut log, marks)?;
+    let left = tape.rest().len();
+    if left != 0 {
+        return Err(ReplayStop::WordsLeft { count: left as u64 });
     }
+    if let Some(page) = first_unmarked(marks, numbers.as_slice()) {
+        return Err(ReplayStop::Idle { page });
+    }
+    Ok(Replayed {
+        exit,
+        core,
+        pages,
+        log,
+    })
 }

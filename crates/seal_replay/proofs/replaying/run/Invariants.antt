@@ -1,10 +1,13 @@
-use Rattle.std.proofs.Common.{◌≡◌, ◌%◌}
+use Rattle.std.proofs.Common.{◌≡◌, ◌%◌, length}
+use Rattle.page_core.specs.Memory.{contains}
+use Rattle.rv_step.specs.Stepping.{state_at}
+use Rattle.seal_replay.specs.Replay.{opened_by}
 use Rattle.seal_replay.specs.Replaying.{HasGone}
 use Rattle.seal_replay.proofs.replaying.run.Given as goal
 
-abbrev pub invariant-loop-k : goal.invariant-loop-k
-invariant-loop-k l = record {
-  bus : l.bus ≡ l.seal.tree;
-  aligned : l.core.pc % 4 ≡ 0;
-  gone : HasGone l.seal l.core l.marks l.k;
-}
+abbrev pub invariant-loop-number : goal.invariant-loop-number
+invariant-loop-number g l =
+    HasGone l.seal (state_at l.core (g.B.Bus.byte_at l.bus) l.tape l.log) l.marks l.number
+    × (l.core.pc % 4 ≡ 0)
+    × (g.B.Bus.opens l.bus ≡ contains (opened_by l.seal))
+    × (length l.marks ≡ length l.fn.marks)
