@@ -19,9 +19,9 @@ module _ (H : List ℕ → List ℕ) where
       let B = one_seal valid.seal in
       record {
         bundle = B;
-        spells = valid.spelled.spells;
+        spells = valid.spelled;
         accepted = valid.accepted;
-        vouches = λ e first image is_image is_first same. law B id e first image (form B valid.spelled.spells.limits) is_image valid.accepted is_first same;
+        vouches = λ e first image is_image is_first same. law B id e first image (form B valid.spelled.limits) is_image valid.accepted is_first same;
       }
 
   refused_not_done : {A : Type 0} → Done ≡ Refused → A

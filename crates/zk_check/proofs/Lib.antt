@@ -4,3 +4,4 @@ pub mod Judged
 pub mod Answered
 pub mod Ended
 pub mod Text
+pub mod Accepting

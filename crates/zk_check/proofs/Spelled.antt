@@ -19,12 +19,18 @@ pub one_bytes : (seal : Seal) → bundle_bytes (one_seal seal) ≡ header ++ sea
 one_bytes seal = ap (λ (xs : List ℕ). header ++ xs) (append-nil (seal_bytes seal ++ []) ∙ append-nil (seal_bytes seal))
 
 limits_of : (seal : Seal) (bytes : List ℕ) → SpellsOne seal bytes → SealLimits seal
-limits_of seal bytes one = one.spells.limits.entries.0.seals.0
+limits_of seal bytes one = one.limits.entries.0.seals.0
+
+-- bytes spell one seal at most
+pub same_seal : OneSpelled seal_bytes SealLimits → (bytes : List ℕ) (x y : Seal) → SpellsOne x bytes → SpellsOne y bytes → x ≡ y
+same_seal law bytes x y left right =
+    let parts : (header ≡ header) × (seal_bytes x ≡ seal_bytes y) = halves header (seal_bytes x) header (seal_bytes y) refl (sym (one_bytes x) ∙ sym left.is ∙ right.is ∙ one_bytes y) in
+    (law x y [] [] (limits_of x bytes left) (limits_of y bytes right) (ap (λ (xs : List ℕ). xs ++ []) parts.1)).0
 
 module _ (bytes found middle : List ℕ) (is : bytes ≡ found ++ middle) where
   -- a receipt of one seal begins so, and then comes the seal
   parts : (seal : Seal) → length found ≡ 16 → SpellsOne seal bytes → (found ≡ header) × (middle ≡ seal_bytes seal)
-  parts seal long one = halves found middle header (seal_bytes seal) long (sym is ∙ one.spells.is ∙ one_bytes seal)
+  parts seal long one = halves found middle header (seal_bytes seal) long (sym is ∙ one.is ∙ one_bytes seal)
 
   pub other_header : length found ≡ 16 → bytes_eq found header ≡ false → IsNotOne bytes
   other_header long test seal one = false_not_true (sym test ∙ (bytes_eq-Decides found header).1 (parts seal long one).0)
@@ -37,36 +43,32 @@ module _ (bytes found middle : List ℕ) (is : bytes ≡ found ++ middle) where
   no_seal long none seal one = none seal [] (limits_of seal bytes one) ((parts seal long one).1 ∙ sym (append-nil (seal_bytes seal)))
 
   module _ (seal : Seal) (rest : List ℕ) (spelled : middle ≡ seal_bytes seal ++ rest) (limits : SealLimits seal) where
-    -- there is more than a seal, or the seal has words
-    pub more_than_one : OneSpelled seal_bytes SealLimits → length found ≡ 16 → (rest ≡ [] → seal.words ≡ [] → ⊥) → IsNotOne bytes
-    more_than_one law long not_plain other one =
-        let both = law other seal [] rest (limits_of other bytes one) limits (append-nil (seal_bytes other) ∙ sym (parts other long one).1 ∙ spelled) in
-        not_plain (sym both.1) (ap (λ (s : Seal). s.words) (sym both.0) ∙ one.no_words)
+    -- there is more than a seal
+    pub more_than_one : OneSpelled seal_bytes SealLimits → length found ≡ 16 → (rest ≡ [] → ⊥) → IsNotOne bytes
+    more_than_one law long more other one =
+        more (sym (law other seal [] rest (limits_of other bytes one) limits (append-nil (seal_bytes other) ∙ sym (parts other long one).1 ∙ spelled)).1)
 
-    pub one_read : found ≡ header → rest ≡ [] → seal.words ≡ [] → SpellsOne seal bytes
-    one_read begins ends no_words = record {
-      no_words = no_words;
-      spells = record {
-        limits = record {
-          some_entries = omega arith;
-          few_entries = omega arith;
-          entries = (
-            record {
-              few_links = omega arith;
-              links = All-nil _;
-              some_seals = omega arith;
-              few_seals = omega arith;
-              seals = (limits, tt);
-            },
-            tt,
-          );
-        };
-        is =
-            is
-            ∙ ap (λ (xs : List ℕ). xs ++ middle) begins
-            ∙ ap (λ (xs : List ℕ). header ++ xs) (spelled ∙ ap (λ (xs : List ℕ). seal_bytes seal ++ xs) ends ∙ append-nil (seal_bytes seal))
-            ∙ sym (one_bytes seal);
+    pub one_read : found ≡ header → rest ≡ [] → SpellsOne seal bytes
+    one_read begins ends = record {
+      limits = record {
+        some_entries = omega arith;
+        few_entries = omega arith;
+        entries = (
+          record {
+            few_links = omega arith;
+            links = All-nil _;
+            some_seals = omega arith;
+            few_seals = omega arith;
+            seals = (limits, tt);
+          },
+          tt,
+        );
       };
+      is =
+          is
+          ∙ ap (λ (xs : List ℕ). xs ++ middle) begins
+          ∙ ap (λ (xs : List ℕ). header ++ xs) (spelled ∙ ap (λ (xs : List ℕ). seal_bytes seal ++ xs) ends ∙ append-nil (seal_bytes seal))
+          ∙ sym (one_bytes seal);
     }
 
 pub no_items : {A : Type 0} (xs : List A) → length xs ≡ 0 → xs ≡ []

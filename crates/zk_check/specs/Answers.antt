@@ -1,5 +1,5 @@
 -- What the program answers, by the words and what is told of the files. H is the digest function.
-use Rattle.std.specs.Prelude.{◌≡◌, ◌≢◌, ◌⊎◌, ℕ, List, length, nat_le, MatchBool, Option, Some, None, ⊤}
+use Rattle.std.specs.Prelude.{◌≡◌, ◌⊎◌, ℕ, List, length, nat_le, MatchBool, Option, Some, None, ⊤}
 use Rattle.outside.specs.Files.{Files}
 use Rattle.page_core.specs.Images.{Image, IsImage}
 use Rattle.claim_types.specs.declared.state.State.{State as SystemState}
@@ -7,9 +7,8 @@ use Rattle.claim_types.specs.States.{state_digest, image_id}
 use Rattle.receipt_types.specs.Seals.{Seal}
 use Rattle.receipt_types.specs.Bundles.{Bundle}
 use Rattle.receipt_types.specs.Spelling.{Spells}
-use Rattle.seal_replay.specs.Claiming.{before_of}
 use Rattle.check_core.specs.Entries.{first_at}
-use Rattle.check_core.specs.Judgement.{Accepts}
+use Rattle.check_core.specs.Judgement.{Accepts, CheckStop, first_stop}
 use Rattle.check_core.specs.Reports.{Report, report_of}
 use Rattle.check_core.specs.Hashed.{hashed}
 use Rattle.check_core.specs.Vouching.{Vouches}
@@ -17,7 +16,8 @@ use Rattle.digest_core.specs.Collisions.{Collides}
 use Rattle.zk_check.specs.declared.status.Status.{Status}
 use Rattle.zk_check.specs.declared.status.Status.TheVariants.{Done, Refused, Words, NoFile, TooLong}
 use Rattle.zk_check.specs.Words.{Job, job_of}
-use Rattle.zk_check.specs.Lines.{usage_lines, no_file_lines, too_long_lines, valid_lines, form_lines, image_lines, step_lines}
+use Rattle.zk_check.specs.Lines.{usage_lines, no_file_lines, too_long_lines, valid_lines, form_lines}
+use Rattle.zk_check.specs.Refusals.{stop_lines}
 use Rattle.zk_check.specs.OneSeal.{one_seal, SpellsOne}
 
 -- a receipt has at most 2 ^ 30 bytes
@@ -43,29 +43,21 @@ pub record IsHeadlined (H : List ℕ → List ℕ) (id bytes : List ℕ) : Type 
       → Vouches H bundle e image ⊎ Collides H (hashed H bundle image)
 
 -- ---- refused
--- no bundle of one seal without words is spelled
+-- no bundle of one seal is spelled
 abbrev pub IsNotOne : List ℕ → Type 0
 IsNotOne bytes = (seal : Seal) → SpellsOne seal bytes → ⊥
 
--- one is, and the digest of its first state isn't the id
-pub record IsOther (H : List ℕ → List ℕ) (id bytes found : List ℕ) : Type 0 where
+-- one is, and this is the first that stops it, with its line
+pub record IsStopped (H : List ℕ → List ℕ) (id bytes lines : List ℕ) : Type 0 where
   pub seal : Seal
   pub spelled : SpellsOne seal bytes
-  pub is_found : found ≡ state_digest H (before_of H seal)
-  pub other : found ≢ id
+  pub stop : CheckStop
+  pub is_first : first_stop H (one_seal seal) id ≡ Some stop
+  pub lines_are : lines ≡ stop_lines stop
 
--- one is, and the digest of its first state is the id
-pub record IsSame (H : List ℕ → List ℕ) (id bytes : List ℕ) : Type 0 where
-  pub seal : Seal
-  pub spelled : SpellsOne seal bytes
-  pub same : state_digest H (before_of H seal) ≡ id
-
--- by form, by image, or by step, with the line of each; the causes exclude one another
+-- by form, or by the first stop; the causes exclude one another
 abbrev pub Refuses : (List ℕ → List ℕ) → List ℕ → List ℕ → List ℕ → Type 0
-Refuses H id bytes lines =
-    (IsNotOne bytes × (lines ≡ form_lines))
-    ⊎ ((found : List ℕ) × IsOther H id bytes found × (lines ≡ image_lines found))
-    ⊎ ((step : ℕ) × IsSame H id bytes × (lines ≡ step_lines step))
+Refuses H id bytes lines = (IsNotOne bytes × (lines ≡ form_lines)) ⊎ IsStopped H id bytes lines
 
 -- ---- the table of answers, a row a cause, in their order
 -- the receipt's bytes were read

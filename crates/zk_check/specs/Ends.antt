@@ -1,11 +1,14 @@
 -- What stands after the program: its status, and what the sink took. H is the digest function.
-use Rattle.std.specs.Prelude.{◌≡◌, ℕ, List, take, Option, None, Some, ⊤}
+use Rattle.std.specs.Prelude.{◌≡◌, ◌≤◌, ℕ, List, length, take, Option, None, Some, ⊤}
 use Rattle.std.specs.Io.KnownBytes.{append_known}
 use Rattle.outside.specs.Files.{Files}
+use Rattle.receipt_types.specs.Seals.{Seal}
+use Rattle.check_core.specs.Judgement.{Accepts}
 use Rattle.zk_check.specs.declared.status.Status.{Status}
-use Rattle.zk_check.specs.declared.status.Status.TheVariants.{ReadFault, WriteFault, Memory}
-use Rattle.zk_check.specs.Words.{Job}
-use Rattle.zk_check.specs.Answers.{Answers, IsValid}
+use Rattle.zk_check.specs.declared.status.Status.TheVariants.{Done, ReadFault, WriteFault, Memory}
+use Rattle.zk_check.specs.Words.{Job, job_of}
+use Rattle.zk_check.specs.OneSeal.{one_seal, SpellsOne}
+use Rattle.zk_check.specs.Answers.{receipt_limit, Answers, IsValid}
 
 -- an answer's lines were made
 pub record IsAnswered (H : List ℕ → List ℕ) (words : List (List ℕ)) (told : Option Files) (status : Status) : Type 0 where
@@ -43,3 +46,24 @@ pub record IsValidPut (H : List ℕ → List ℕ) (id bytes : List ℕ) (taken t
   pub lines : List ℕ
   pub valid : IsValid H id bytes lines
   pub put : taken' ≡ append_known taken lines
+
+-- the words name a file whose bytes, as told, are a receipt of one seal that is accepted under the named id
+pub record NamesAccepted (H : List ℕ → List ℕ) (words : List (List ℕ)) (told : Option Files) : Type 0 where
+  pub job : Job
+  pub is_job : job_of words ≡ Some job
+  pub files : Files
+  pub is_told : told ≡ Some files
+  pub bytes : List ℕ
+  pub held : files job.receipt ≡ Some bytes
+  pub within : length bytes ≤ receipt_limit
+  pub seal : Seal
+  pub spelled : SpellsOne seal bytes
+  pub accepted : Accepts H (one_seal seal) job.id
+
+-- the status of what is valid, or of an end that is no answer
+abbrev pub IsDoneOrFails : Status → Type 0
+IsDoneOrFails Done = ⊤
+IsDoneOrFails ReadFault = ⊤
+IsDoneOrFails WriteFault = ⊤
+IsDoneOrFails Memory = ⊤
+IsDoneOrFails status = ⊥

@@ -41,6 +41,3 @@ form_lines = line (codes "refused not-built form")
 
 abbrev pub image_lines : List ℕ → List ℕ
 image_lines found = line (codes "refused image " ++ encode_lower found)
-
-abbrev pub step_lines : ℕ → List ℕ
-step_lines step = line (codes "refused not-built " ++ decimal step)

@@ -1,5 +1,5 @@
--- Receipts of one entry, no links and one seal without input words: the form that this program judges.
-use Rattle.std.specs.Prelude.{◌≡◌, ℕ, List, [], ◌∷◌}
+-- Receipts of one entry, no links and one seal: the form that this program judges.
+use Rattle.std.specs.Prelude.{ℕ, List, [], ◌∷◌}
 use Rattle.receipt_types.specs.Seals.{Seal}
 use Rattle.receipt_types.specs.Bundles.{Bundle}
 use Rattle.receipt_types.specs.Spelling.{Spells}
@@ -7,7 +7,6 @@ use Rattle.receipt_types.specs.Spelling.{Spells}
 abbrev pub one_seal : Seal → Bundle
 one_seal seal = record { links = []; seals = seal ∷ [] } ∷ []
 
--- the bytes spell the bundle of this seal, which has no words
-pub record SpellsOne (seal : Seal) (bytes : List ℕ) : Type 0 where
-  pub no_words : seal.words ≡ []
-  pub spells : Spells (one_seal seal) bytes
+-- the bytes spell the bundle of this seal
+abbrev pub SpellsOne : Seal → List ℕ → Type 0
+SpellsOne seal bytes = Spells (one_seal seal) bytes

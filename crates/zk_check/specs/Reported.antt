@@ -1,27 +1,27 @@
--- The report of a seal that halts having said nothing. H is the digest function.
-use Rattle.std.specs.Prelude.{ℕ, List, [], ◌∷◌, ◌++◌, codes}
+-- The report of a seal that halts and assumes nothing. H is the digest function.
+use Rattle.std.specs.Prelude.{ℕ, List, [], ◌∷◌, ◌++◌, length, codes}
 use Rattle.claim_types.specs.declared.claim.Exit.TheVariants.{Halted}
 use Rattle.claim_types.specs.declared.state.State.{State as SystemState}
 use Rattle.claim_types.specs.States.{state_digest, halted_state}
 use Rattle.claim_types.specs.Claims.{SpanClaim, claim_digest, conditional_digest}
 use Rattle.check_core.specs.Reports.{Report}
 
--- from this state the run halts with this code, an empty journal and no calls
-abbrev pub plain_claim : SystemState → ℕ → SpanClaim
-plain_claim before code = record { before = before; after = halted_state; exit = Halted code; journal = []; calls = [] }
+-- from this state the run halts with this code and journal, and no calls
+abbrev pub plain_claim : SystemState → ℕ → List ℕ → SpanClaim
+plain_claim before code journal = record { before = before; after = halted_state; exit = Halted code; journal = journal; calls = [] }
 
 -- the report of one entry with one seal of so many steps
-abbrev pub plain_report : (List ℕ → List ℕ) → SystemState → ℕ → ℕ → Report
-plain_report H before steps code = record {
-  journal = [];
+abbrev pub plain_report : (List ℕ → List ℕ) → SystemState → ℕ → ℕ → List ℕ → Report
+plain_report H before steps code journal = record {
+  journal = journal;
   entries =
       record {
         image = state_digest H before;
         exit = code;
-        journal_bytes = 0;
-        journal_digest = H [];
-        conditional = conditional_digest H (plain_claim before code);
-        claim = claim_digest H (plain_claim before code);
+        journal_bytes = length journal;
+        journal_digest = H journal;
+        conditional = conditional_digest H (plain_claim before code journal);
+        claim = claim_digest H (plain_claim before code journal);
         calls = 0;
         seals = 1;
         steps = steps;

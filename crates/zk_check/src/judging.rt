@@ -1,10 +1,19 @@
-ghost use Rattle.std.specs.Prelude.{◌≡◌, IfOk, string_bytes, decimal};
+ghost use Rattle.std.specs.Prelude.{◌≡◌, ◌≢◌, ◌%◌, ◌↔◌, ℕ, List, IfOk, IsTrue, string_bytes, decimal};
+ghost use Rattle.check_core.specs.Judgement.{Broken};
+ghost use Rattle.seal_replay.specs.declared.stop.ReplayStop.TheVariants.{Memory};
+ghost use Rattle.zk_check.specs.Refusals.{stop_lines};
+ghost use Rattle.claim_types.specs.States.{state_digest};
+ghost use Rattle.part_tree.specs.Part.{IsPart};
+ghost use Rattle.seal_replay.specs.Claiming.{before_of};
+ghost use Rattle.seal_replay.specs.Replaying.{EndsSo};
+ghost use Rattle.zk_check.specs.OneSeal.{SpellsOne};
 ghost use Rattle.zk_check.specs.Answers.{Judged};
 ghost use Rattle.zk_check.specs.Lines.{valid_lines};
 ghost use Rattle.zk_check.specs.Reported.{plain_claim, plain_report, plain_text, claims_lines, counts_lines};
 
 use crate::printed::{Printed, digits};
 use crate::reader::read_one;
+use crate::refusals::{broken_text, journal_text, link_count_text, no_end_text};
 use crate::status::Status;
 use byte_cursor::ByteList;
 use claim_types::{Exit, SpanClaim, State, claim_digest, conditional_digest, state_digest};
@@ -12,10 +21,11 @@ use digest_core::{Digest, Digester};
 use host_calls::CallList;
 use receipt_codec::ReadStop;
 use receipt_types::Seal;
-use seal_replay::{ReplayStop, replay};
+use rv_step::RunLog;
+use seal_replay::{ReplayStop, Replayed, replay};
 use std::alloc::{AllocError, Global};
 
-// The answer to a receipt's bytes under an id: refused by form, by image or by step, or valid.
+// The answer to a receipt's bytes under an id: refused by form or by the first stop, or valid.
 pub(crate) fn judge<D: Digester>(
     alloc: Global,
     bytes: &[u8],
@@ -28,6 +38,15 @@ pub(crate) fn judge<D: Digester>(
         Err(ReadStop::Malformed) => return Printed::refused_form(alloc),
         Err(ReadStop::Memory) => return Err(AllocError),
     };
+    judge_seal::<D>(alloc, &seal, id)
+}
+
+// The answer for a seal.
+fn judge_seal<D: Digester>(alloc: Global, seal: &Seal, id: &Digest) -> Result<Printed, AllocError>
+    requires aligned { seal.now.pc % 4 ≡ 0 }
+    requires shape { IsPart 18 seal.now.tree }
+    ensures { IfOk result (λ printed. (bytes : List ℕ) → SpellsOne seal.now bytes → Judged D.digest_of id.now bytes printed.status (string_bytes printed.text)) }
+{
     let before = State {
         pc: seal.pc,
         root: seal.tree.root::<D>(),
@@ -36,40 +55,73 @@ pub(crate) fn judge<D: Digester>(
     if found != *id {
         return Printed::refused_image(alloc, &found);
     }
-    match replay(alloc, &seal) {
-        Ok(code) => valid::<D>(alloc, before, seal.steps, code),
-        Err(ReplayStop::NotBuilt { step }) => Printed::refused_step(alloc, step),
-        Err(ReplayStop::Memory) => Err(AllocError),
+    match replay(alloc, seal) {
+        Ok(replayed) => judge_end::<D>(alloc, seal, before, replayed),
+        Err(stop) => refused_seal(alloc, &stop),
     }
 }
 
-// The answer valid, of a seal that begins in this state and halts with this code after its steps.
+fn is_memory(stop: &ReplayStop) -> bool
+    ensures { IsTrue result ↔ (stop.now ≡ Memory) }
+{
+    matches!(stop, ReplayStop::Memory)
+}
+
+// The refusal of a seal whose replay stops; want of memory is none.
+fn refused_seal(alloc: Global, stop: &ReplayStop) -> Result<Printed, AllocError>
+    ensures { IfOk result (λ printed. (stop.now ≢ Memory) × (printed.status ≡ Status.Refused) × (string_bytes printed.text ≡ stop_lines (Broken 0 0 stop.now))) }
+{
+    if is_memory(stop) {
+        return Err(AllocError);
+    }
+    Printed::new(Status::Refused, broken_text(alloc, 0, 0, stop))
+}
+
+// The answer for a seal that begins in this state, whose digest is the id, and that ends so without a stop.
+fn judge_end<D: Digester>(
+    alloc: Global,
+    seal: &Seal,
+    before: State,
+    replayed: Replayed,
+) -> Result<Printed, AllocError>
+    requires before { before ≡ before_of D.digest_of seal.now }
+    requires ended { EndsSo seal.now replayed }
+    ensures { IfOk result (λ printed. (bytes : List ℕ) → SpellsOne seal.now bytes → Judged D.digest_of (state_digest D.digest_of before) bytes printed.status (string_bytes printed.text)) }
+{
+    let Replayed { exit, log, .. } = replayed;
+    let Exit::Halted(code) = exit else {
+        return Printed::new(Status::Refused, no_end_text(alloc, 0));
+    };
+    let RunLog { journal, calls } = log;
+    let count = calls.len();
+    if count != 0 {
+        return Printed::new(Status::Refused, link_count_text(alloc, 0, count as u64, 0));
+    }
+    valid::<D>(alloc, before, seal.steps, code, journal)
+}
+
+// The answer valid, of a seal that begins in this state and halts with this code after its steps,
+// having written this journal.
 fn valid<D: Digester>(
     alloc: Global,
     before: State,
     steps: u32,
     code: u32,
+    journal: ByteList,
 ) -> Result<Printed, AllocError>
-    ensures status { IfOk result (λ printed. printed.status ≡ Status.Done) }
-    ensures lines { IfOk result (λ printed. string_bytes printed.text ≡ valid_lines (plain_report D.digest_of before steps code)) }
+    ensures { IfOk result (λ printed. (printed.status ≡ Status.Done) × (string_bytes printed.text ≡ valid_lines (plain_report D.digest_of before steps code journal.items))) }
 {
-    let claim = plain(alloc, before, code);
+    let told = journal_text(alloc, journal.as_slice())?;
+    let claim = plain(alloc, before, code, journal);
     let resolved = digits(alloc, &claim_digest::<D>(&claim))?;
     let conditional = digits(alloc, &conditional_digest::<D>(&claim))?;
-    let text = valid_text(
-        alloc,
-        code,
-        claim.journal.len(),
-        &resolved,
-        &conditional,
-        steps,
-    );
+    let text = valid_text(alloc, code, &told, &resolved, &conditional, steps);
     Printed::new(Status::Done, text)
 }
 
-// The claim of a run that halts with this code having said nothing.
-fn plain(alloc: Global, before: State, code: u32) -> SpanClaim
-    ensures { result ≡ plain_claim before code }
+// The claim of a run that halts with this code and journal, and assumes nothing.
+fn plain(alloc: Global, before: State, code: u32, journal: ByteList) -> SpanClaim
+    ensures { result ≡ plain_claim before code journal.items }
 {
     SpanClaim {
         before,
@@ -78,21 +130,22 @@ fn plain(alloc: Global, before: State, code: u32) -> SpanClaim
             root: Digest::of(&[0; 32]),
         },
         exit: Exit::Halted(code),
-        journal: ByteList::new(alloc),
+        journal,
         calls: CallList::new(alloc),
     }
 }
 
-// The lines of the answer valid for one entry of one seal, from the digits of the two claim digests.
+// The lines of the answer valid for one entry of one seal, from what is told of the journal and the
+// digits of the two claim digests.
 fn valid_text(
     alloc: Global,
     code: u32,
-    journal: usize,
+    journal: &str,
     resolved: &str,
     conditional: &str,
     steps: u32,
 ) -> Result<String, AllocError>
-    ensures { IfOk result (λ text. string_bytes text ≡ plain_text (decimal code) (decimal journal) resolved.now conditional.now (decimal 1) (decimal steps)) }
+    ensures { IfOk result (λ text. string_bytes text ≡ plain_text (decimal code) journal.now resolved.now conditional.now (decimal 1) (decimal steps)) }
 {
     let claims = claims_text(alloc, code, journal, resolved, conditional)?;
     let counts = counts_text(alloc, steps)?;
@@ -103,11 +156,11 @@ fn valid_text(
 fn claims_text(
     alloc: Global,
     code: u32,
-    journal: usize,
+    journal: &str,
     resolved: &str,
     conditional: &str,
 ) -> Result<String, AllocError>
-    ensures { IfOk result (λ text. string_bytes text ≡ claims_lines (decimal code) (decimal journal) resolved.now conditional.now) }
+    ensures { IfOk result (λ text. string_bytes text ≡ claims_lines (decimal code) journal.now resolved.now conditional.now) }
 {
     format!(in alloc;
         "valid\nexit {code}\njournal {journal}\nclaim {resolved}\nconditional {conditional}\n"

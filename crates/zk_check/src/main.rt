@@ -1,12 +1,17 @@
 //! Checks receipts: reads one, judges it under an image id, and prints the verdict.
 #![tactic(auto)]
 
+#[cfg(test)]
+mod guests;
 mod job;
 mod judging;
 #[cfg(test)]
 mod made;
 mod printed;
 mod reader;
+mod refusals;
+#[cfg(test)]
+mod refusals_tests;
 mod status;
 #[cfg(test)]
 mod tests;

@@ -1,6 +1,6 @@
 ghost use Rattle.std.specs.Prelude.{◌≡◌, string_bytes, IfOk};
 ghost use Rattle.hex.specs.Hex.{encode_lower};
-ghost use Rattle.zk_check.specs.Lines.{usage_lines, no_file_lines, too_long_lines, form_lines, image_lines, step_lines};
+ghost use Rattle.zk_check.specs.Lines.{usage_lines, no_file_lines, too_long_lines, form_lines, image_lines};
 
 use crate::status::Status;
 use digest_core::Digest;
@@ -67,15 +67,6 @@ impl Printed {
         Printed::new(
             Status::Refused,
             format!(in alloc; "refused image {found}\n"),
-        )
-    }
-
-    pub(crate) fn refused_step(alloc: Global, step: u32) -> Result<Printed, AllocError>
-        ensures { IfOk result (λ printed. (printed.status ≡ Status.Refused) × (string_bytes printed.text ≡ step_lines step)) }
-    {
-        Printed::new(
-            Status::Refused,
-            format!(in alloc; "refused not-built {step}\n"),
         )
     }
 }

@@ -10,7 +10,7 @@ use std::alloc::Global;
 // The fields before the seal: "SEAL", version 1, one entry, no links and one seal.
 const HEADER: [u8; 16] = [83, 69, 65, 76, 1, 0, 1, 0, 0, 0, 0, 0, 1, 0, 0, 0];
 
-// Reads a receipt of one entry, no links and one seal without input words.
+// Reads a receipt of one entry, no links and one seal.
 pub(crate) fn read_one(alloc: Global, bytes: &[u8]) -> Result<Seal, ReadStop>
     ensures ok { IfOk result (λ seal. SpellsOne seal bytes.now) }
     ensures malformed { result ≡ Err ReadStop.Malformed → IsNotOne bytes.now }
@@ -25,9 +25,6 @@ pub(crate) fn read_one(alloc: Global, bytes: &[u8]) -> Result<Seal, ReadStop>
     }
     let seal = read_seal(alloc, &mut cursor)?;
     if cursor.left() != 0 {
-        return Err(ReadStop::Malformed);
-    }
-    if seal.words.len() != 0 {
         return Err(ReadStop::Malformed);
     }
     Ok(seal)

@@ -1,17 +1,16 @@
 //! Checks of receipts over a desk and a sink in memory.
 
+use crate::guests::{ASSUMES, CLOSED, HALTS_7, ILLEGAL, OPENS_5, READS_3, SAYS_HELLO};
 use crate::made::{FirstWords, receipt};
 use crate::reader::read_one;
 use crate::status::Status;
 use crate::top::check_top;
 use byte_cursor::{ByteList, Out, WordList};
+use claim_types::{State, state_digest};
 use digest_core::{Digester, ShaDigester, WeakDigester, hash};
 use outside::{MemDesk, MemFile, MemFiles, MemSink};
 use std::alloc::{AllocError, Global};
 use std::test::Fail;
-
-// ADDI x17, x0, 0; ADDI x10, x0, 7; ECALL, in the page of address 0x1000; and the registers.
-const HALTS_7: [FirstWords<'static>; 2] = [(4, &[0x893, 0x700513, 0x73]), (262_143, &[])];
 
 const ID: &str = "c4228a6f22f9441888bc855f0f0f64a5460ee1e92971478cc24068c3b8172aac";
 
@@ -21,6 +20,13 @@ const VALID: &str = "valid\nexit 7\njournal 0
 claim b858adca5a484e582d131a73877a32084cb5b130eb98c49b829f126aa90c7a7e
 conditional b858adca5a484e582d131a73877a32084cb5b130eb98c49b829f126aa90c7a7e
 entries 1\nseals 1\nsteps 3\n";
+
+const HELLO_ID: &str = "e77a5c501e641e04e086a6dd18d04427956cee2fa562464d772dcecd1cedac36";
+
+const VALID_HELLO: &str = "valid\nexit 0\njournal 5 48656c6c6f
+claim 1ef52ddbf95a0d39a36dc6acdea1a3aeb3f9d64d8d6665c347d45b1e79b1ca16
+conditional 1ef52ddbf95a0d39a36dc6acdea1a3aeb3f9d64d8d6665c347d45b1e79b1ca16
+entries 1\nseals 1\nsteps 11\n";
 
 const USAGE: &str =
     "usage: zk_check check RECEIPT ID [JOURNALFILE] | audit RECEIPT ENTRY ELF | id ELF | inspect RECEIPT\n";
@@ -39,6 +45,17 @@ fn listed(alloc: Global, number: u32) -> Result<WordList, AllocError> {
     let mut numbers = WordList::new(alloc);
     numbers.push(number)?;
     Ok(numbers)
+}
+
+// The image id of a receipt's seal.
+fn own_id(alloc: Global, bytes: &[u8]) -> Result<String, Fail> {
+    let seal = read_one(alloc, bytes)?;
+    let before = State {
+        pc: seal.pc,
+        root: seal.tree.root::<ShaDigester>(),
+    };
+    let id = state_digest::<ShaDigester>(&before);
+    Ok(hex::encode(alloc, id.bytes().as_slice())?)
 }
 
 // Answers the words over a file `r`; of the desk's and the sink's calls one fails, 0 being none.
@@ -135,38 +152,51 @@ fn other_bytes_are_refused_by_form(rt: HostRuntime) -> Result<(), Fail> {
 }
 
 #[test]
-fn steps_other_than_the_run_s_are_refused_at_step_2(rt: HostRuntime) -> Result<(), Fail> {
-    for steps in [2, 4] {
-        let held = halts_7::<ShaDigester>(rt.alloc(), steps)?;
+fn a_seal_is_refused_by_its_first_stop(rt: HostRuntime) -> Result<(), Fail> {
+    let rows: [(u32, &[u32], &[FirstWords], &str); 8] = [
+        (2, &[], &HALTS_7, "refused no-end 0\n"),
+        (4, &[], &HALTS_7, "refused seal 0 0 ends-early 2\n"),
+        (3, &[5], &HALTS_7, "refused seal 0 0 words-left 1\n"),
+        (3, &[], &CLOSED, "refused seal 0 0 unopened 0 4\n"),
+        (3, &[], &OPENS_5, "refused seal 0 0 idle 5\n"),
+        (4, &[5, 6], &READS_3, "refused seal 0 0 words-short 3\n"),
+        (
+            2,
+            &[],
+            &ILLEGAL,
+            "refused seal 0 0 fault 1 illegal 00000000\n",
+        ),
+        (8, &[], &ASSUMES, "refused link-count 0 1 0\n"),
+    ];
+    for (steps, words, pages, line) in rows {
+        let held = receipt::<ShaDigester>(rt.alloc(), 0x1000, steps, words, pages)?;
+        let id = own_id(rt.alloc(), held.as_slice())?;
         let (status, sink) = answered::<ShaDigester>(
             rt.alloc(),
-            &["check", "r", ID],
+            &["check", "r", id.as_str()],
             Some(held),
             0,
             0,
         )?;
-        assert_eq!(rt; status, Status::Refused);
-        assert_eq!(rt;
-            sink.taken(),
-            b"refused not-built 2\n".as_slice(),
-            "of {steps}"
-        );
+        assert_eq!(rt; status, Status::Refused, "{line}");
+        assert_eq!(rt; sink.taken(), line.as_bytes());
     }
     Ok(())
 }
 
 #[test]
-fn input_words_are_refused_by_form(rt: HostRuntime) -> Result<(), Fail> {
-    let held = receipt::<ShaDigester>(rt.alloc(), 0x1000, 3, &[5, 6], &HALTS_7)?;
+fn the_journal_of_a_valid_run_is_printed(rt: HostRuntime) -> Result<(), Fail> {
+    let words = [0x6C6C_6548, 0x6F];
+    let held = receipt::<ShaDigester>(rt.alloc(), 0x1000, 11, &words, &SAYS_HELLO)?;
     let (status, sink) = answered::<ShaDigester>(
         rt.alloc(),
-        &["check", "r", ID],
+        &["check", "r", HELLO_ID],
         Some(held),
         0,
         0,
     )?;
-    assert_eq!(rt; status, Status::Refused);
-    assert_eq!(rt; sink.taken(), b"refused not-built form\n".as_slice());
+    assert_eq!(rt; status, Status::Done);
+    assert_eq!(rt; sink.taken(), VALID_HELLO.as_bytes());
     Ok(())
 }
 
@@ -179,22 +209,34 @@ fn an_absent_receipt_is_named(rt: HostRuntime) -> Result<(), Fail> {
 }
 
 #[test]
-fn a_read_or_a_put_that_fails_prints_nothing(rt: HostRuntime) -> Result<(), Fail> {
-    for (read, put, failed) in [
-        (1, 0, Status::ReadFault),
-        (2, 0, Status::ReadFault),
-        (0, 1, Status::WriteFault),
-    ] {
-        let held = halts_7::<ShaDigester>(rt.alloc(), 3)?;
-        let (status, sink) = answered::<ShaDigester>(
-            rt.alloc(),
-            &["check", "r", ID],
-            Some(held),
-            read,
-            put,
-        )?;
-        assert_eq!(rt; status, failed);
-        assert_eq!(rt; sink.taken().len(), 0);
+fn each_call_that_fails_has_its_status(rt: HostRuntime) -> Result<(), Fail> {
+    // The words, the steps of a file that is there, the status, and the number of reads.
+    let rows: [(&[&str], Option<u32>, Status, u32); 5] = [
+        (&["check", "r", ID], Some(3), Status::Done, 2),
+        (&["check", "r", ID], Some(2), Status::Refused, 2),
+        (&["check", "r", ZEROS], Some(3), Status::Refused, 2),
+        (&["check", "r", ID], None, Status::NoFile, 1),
+        (&["check"], Some(3), Status::Words, 0),
+    ];
+    for (words, steps, status, reads) in rows {
+        // The read and the put that fail.
+        for (read, put) in [(1, 0), (2, 0), (3, 0), (0, 1), (0, 2)] {
+            let held = match steps {
+                Some(steps) => Some(halts_7::<ShaDigester>(rt.alloc(), steps)?),
+                None => None,
+            };
+            let (found, sink) = answered::<ShaDigester>(rt.alloc(), words, held, read, put)?;
+            let wanted = if read > 0 && read <= reads {
+                Status::ReadFault
+            } else if put == 1 {
+                Status::WriteFault
+            } else {
+                status
+            };
+            let is_silent = wanted == Status::ReadFault || wanted == Status::WriteFault;
+            assert_eq!(rt; found, wanted, "read {read} and put {put} of {words:?}");
+            assert_eq!(rt; sink.taken().len() == 0, is_silent);
+        }
     }
     Ok(())
 }

@@ -2,15 +2,16 @@ ghost use Rattle.std.specs.Prelude.{◌≡◌, ◌+◌, ◌≤◌, ◌⊎◌, ma
 ghost use Rattle.outside.specs.Faults.{Rose};
 ghost use Rattle.zk_check.specs.Words.{job_of};
 ghost use Rattle.zk_check.specs.Answers.{Answers, IsHeadlined};
-ghost use Rattle.zk_check.specs.Ends.{Ends, IsPrinted, OnReceipt, IsValidPut};
+ghost use Rattle.zk_check.specs.Ends.{Ends, IsPrinted, IsDoneOrFails, OnReceipt, IsValidPut, NamesAccepted};
 
 use crate::job::parse;
 use crate::judging::judge;
 use crate::printed::Printed;
 use crate::status::Status;
-use check_core::headline;
+use check_core::{accepted_unstopped, headline};
 use digest_core::Digester;
 use outside::{Desk, ReadAllStop, Sink, read_all};
+use receipt_codec::spelling_laws;
 use receipt_types::limits_give_form;
 use std::alloc::{AllocError, Global};
 
@@ -18,8 +19,8 @@ use std::alloc::{AllocError, Global};
 const RECEIPT_LIMIT: u64 = 1_073_741_824;
 
 /// Answers the words, and prints the answer in one put. The words are `check`, the receipt's name and
-/// the image id's 64 hexadecimal digits; the receipt has one entry, no links and one seal without
-/// input words, and its steps are LUI, ADDI and ECALL with 0 in x17. Files are as before.
+/// the image id's 64 hexadecimal digits. A receipt of one entry, no links and one seal is judged; every
+/// other one is refused by form. Files are as before.
 pub fn check_top<D: Digester, K: Desk, O: Sink>(
     alloc: Global,
     words: &[String],
@@ -33,6 +34,8 @@ pub fn check_top<D: Digester, K: Desk, O: Sink>(
     // Each entry then vouches for each image of its first state's id, or two strings among those hashed for bundle and image collide.
     ensures headline { result ≡ Status.Done → OnReceipt (job_of (map string_bytes words.now)) (K.contents desk.old) (λ job bytes.
         IsHeadlined D.digest_of job.id bytes) }
+    // Where those bytes spell such a bundle that is accepted under the id, the status is 0, or there was a fault or want of memory.
+    ensures accepted { NamesAccepted D.digest_of (map string_bytes words.now) (K.contents desk.old) → IsDoneOrFails result }
 
     // The status and the lines are those of an answer, but for a fault and want of memory.
     ensures answer { Ends D.digest_of (map string_bytes words.now) (K.contents desk.old) result (O.taken out.old) (O.taken out.new) }
@@ -43,7 +46,9 @@ pub fn check_top<D: Digester, K: Desk, O: Sink>(
     ensures files { K.contents desk.new ≡ K.contents desk.old }
 {
     headline::<D>();
+    accepted_unstopped::<D>();
     limits_give_form();
+    spelling_laws();
     match answer::<D, K>(alloc, words, desk) {
         Err(silent) => silent,
         Ok(printed) => match out.put(printed.text.as_bytes()) {

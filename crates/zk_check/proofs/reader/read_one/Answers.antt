@@ -1,5 +1,4 @@
-use Rattle.std.proofs.Common.{sym, ap, ◌∙◌}
-use Rattle.receipt_types.specs.Seals.{Seal}
+use Rattle.std.proofs.Common.{sym, ◌∙◌}
 use Rattle.zk_check.proofs.Spelled.{header, other_header, more_than_one, one_read, no_items, test_false, test_true, rest_of}
 use Rattle.zk_check.proofs.reader.read_one.Goals as goal
 
@@ -12,7 +11,7 @@ pub returns-then-left-ne0-clause-malformed : goal.returns-then-left-ne0-clause-m
 returns-then-left-ne0-clause-malformed c = λ e.
     more_than_one c.args.bytes.now c.in-Some.header.now c.take.new.self (sym c.new-cursor.ensures ∙ c.in-Some.ensures.some)
     c.in_ok-seal.seal c.read_seal.new.cursor c.in_ok-seal.ensures.spelled c.in_ok-seal.ensures.limits c.spelling_laws.ensures.seals c.in-Some.ensures.len
-    (λ ends no_words. rest_of c.read_seal.new.cursor c.left.result c.left.ensures ends c.if-left-ne0.true)
+    (λ ends. rest_of c.read_seal.new.cursor c.left.result c.left.ensures ends c.if-left-ne0.true)
 
 pub returns-clause-ok : goal.returns-clause-ok
 returns-clause-ok c =
@@ -20,4 +19,3 @@ returns-clause-ok c =
     c.in_ok-seal.seal c.read_seal.new.cursor c.in_ok-seal.ensures.spelled c.in_ok-seal.ensures.limits
     (test_false c.in-Some.header.now c.as_slice.result.now header c.ne.result c.ne.ensures c.if-ne.false c.as_slice.ensures)
     (no_items c.read_seal.new.cursor (sym c.left.ensures ∙ c.if-left-ne0.false))
-    (sym (ap (λ (s : Seal). s.words) c.seal.view_is) ∙ no_items _ (sym c.len.ensures ∙ c.if-len-ne0.false))

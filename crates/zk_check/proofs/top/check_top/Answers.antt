@@ -2,12 +2,18 @@ use Rattle.std.proofs.Common.{ℕ, List, take, ap, ◌∙◌, map}
 use Rattle.std.specs.Io.KnownBytes.{append_known}
 use Rattle.std.specs.Prelude.{string_bytes}
 use Rattle.zk_check.proofs.Ended.{done_headlined, ends_printed}
+use Rattle.zk_check.proofs.Accepting.{accepted_ends}
 use Rattle.zk_check.proofs.top.check_top.Goals as goal
 
 pub returns-in-Ok-put-clause-headline : goal.returns-in-Ok-put-clause-headline
 returns-in-Ok-put-clause-headline g c =
     done_headlined g.D.Digester.digest_of c.headline.ensures.vouches c.limits_give_form.ensures (map string_bytes c.args.words.now) (g.K.Desk.contents c.args.desk.now)
     c.in-Ok.printed.status (string_bytes c.in-Ok.printed.text) c.in-Ok.ensures.answer
+
+pub returns-in-Ok-put-clause-accepted : goal.returns-in-Ok-put-clause-accepted
+returns-in-Ok-put-clause-accepted g c =
+    accepted_ends g.D.Digester.digest_of c.spelling_laws.ensures.seals c.accepted_unstopped.ensures c.limits_give_form.ensures
+    (map string_bytes c.args.words.now) (g.K.Desk.contents c.args.desk.now) c.in-Ok.printed.status (string_bytes c.in-Ok.printed.text) c.in-Ok.ensures.answer
 
 pub returns-in-Ok-put-clause-answer : goal.returns-in-Ok-put-clause-answer
 returns-in-Ok-put-clause-answer g c =

@@ -1,0 +1,12 @@
+use Rattle.std.proofs.Common.{◌∙◌, List, ℕ, ◌++◌, ap, append_assoc}
+use Rattle.std.specs.Prelude.{codes, decimal}
+use Rattle.zk_check.specs.Lines.{line}
+use Rattle.std.proofs.lemmas.Result.{IfOk-weaker}
+use Rattle.zk_check.proofs.refusals.broken_text.Goals as goal
+
+pub returns : goal.returns
+returns c =
+    IfOk-weaker c.format.result _ _
+    (λ text e. e
+    ∙ (simp append_assoc)
+    ∙ ap (λ (stop : List ℕ). line (codes "refused seal " ++ decimal c.args.entry ++ codes " " ++ decimal c.args.seal ++ codes " " ++ stop)) c.in_ok-stop.ensures) c.format.ensures.ok

@@ -1,0 +1,105 @@
+ghost use Rattle.std.specs.Prelude.{◌≡◌, ◌++◌, length, string_bytes, decimal, IfOk};
+ghost use Rattle.check_core.specs.Judgement.{Broken, NoEnd, LinkCount};
+ghost use Rattle.zk_check.specs.Lines.{journal_tail};
+ghost use Rattle.zk_check.specs.Refusals.{hex_word, fault_text, replay_text, stop_lines};
+
+use rv_isa::Fault;
+use seal_replay::ReplayStop;
+use std::alloc::{AllocError, Global};
+
+// A word as eight digits.
+fn hex_word(alloc: Global, value: u32) -> Result<String, AllocError>
+    ensures { IfOk result (λ text. string_bytes text ≡ hex_word value) }
+{
+    hex::encode(alloc, value.to_be_bytes().as_slice())
+}
+
+// Why a step can't be done.
+pub(crate) fn fault_text(alloc: Global, fault: &Fault) -> Result<String, AllocError>
+    ensures { IfOk result (λ text. string_bytes text ≡ fault_text fault.now) }
+{
+    match *fault {
+        Fault::Illegal(word) => {
+            let word = hex_word(alloc, word)?;
+            format!(in alloc; "illegal {word}")
+        }
+        Fault::BadAddress(address) => {
+            let address = hex_word(alloc, address)?;
+            format!(in alloc; "bad-address {address}")
+        }
+        Fault::Misaligned(address) => {
+            let address = hex_word(alloc, address)?;
+            format!(in alloc; "misaligned {address}")
+        }
+        Fault::BadTarget(address) => {
+            let address = hex_word(alloc, address)?;
+            format!(in alloc; "bad-target {address}")
+        }
+        Fault::Break => String::from_str(alloc, "break"),
+        Fault::BadCall(number) => format!(in alloc; "bad-call {number}"),
+        Fault::BadArgs(number) => format!(in alloc; "bad-args {number}"),
+        Fault::InputEnd => String::from_str(alloc, "input-end"),
+    }
+}
+
+// Why a seal's replay stops; nothing where it stops for want of memory.
+fn replay_text(alloc: Global, stop: &ReplayStop) -> Result<String, AllocError>
+    ensures { IfOk result (λ text. string_bytes text ≡ replay_text stop.now) }
+{
+    match *stop {
+        ReplayStop::Unopened { step, page } => format!(in alloc; "unopened {step} {page}"),
+        ReplayStop::Fault { step, fault } => {
+            let fault = fault_text(alloc, &fault)?;
+            format!(in alloc; "fault {step} {fault}")
+        }
+        ReplayStop::WordsShort { step } => format!(in alloc; "words-short {step}"),
+        ReplayStop::EndsEarly { step } => format!(in alloc; "ends-early {step}"),
+        ReplayStop::WordsLeft { count } => format!(in alloc; "words-left {count}"),
+        ReplayStop::Idle { page } => format!(in alloc; "idle {page}"),
+        ReplayStop::Memory => Ok(String::new(alloc)),
+    }
+}
+
+// The line of a seal whose replay stops.
+pub(crate) fn broken_text(
+    alloc: Global,
+    entry: u16,
+    seal: u32,
+    stop: &ReplayStop,
+) -> Result<String, AllocError>
+    ensures { IfOk result (λ text. string_bytes text ≡ stop_lines (Broken entry seal stop.now)) }
+{
+    let stop = replay_text(alloc, stop)?;
+    format!(in alloc; "refused seal {entry} {seal} {stop}\n")
+}
+
+// The line of an entry whose last seal doesn't halt.
+pub(crate) fn no_end_text(alloc: Global, entry: u16) -> Result<String, AllocError>
+    ensures { IfOk result (λ text. string_bytes text ≡ stop_lines (NoEnd entry)) }
+{
+    format!(in alloc; "refused no-end {entry}\n")
+}
+
+// The line of an entry with more or fewer calls than links.
+pub(crate) fn link_count_text(
+    alloc: Global,
+    entry: u16,
+    calls: u64,
+    links: u32,
+) -> Result<String, AllocError>
+    ensures { IfOk result (λ text. string_bytes text ≡ stop_lines (LinkCount entry calls links)) }
+{
+    format!(in alloc; "refused link-count {entry} {calls} {links}\n")
+}
+
+// A journal's length and, where it isn't empty, its bytes.
+pub(crate) fn journal_text(alloc: Global, bytes: &[u8]) -> Result<String, AllocError>
+    ensures { IfOk result (λ text. string_bytes text ≡ decimal (length bytes.now) ++ journal_tail bytes.now) }
+{
+    let count = bytes.len();
+    if bytes.is_empty() {
+        return format!(in alloc; "{count}");
+    }
+    let digits = hex::encode(alloc, bytes)?;
+    format!(in alloc; "{count} {digits}")
+}
