@@ -1,2 +1,4 @@
 pub mod Bytes
 pub mod Listed
+pub mod Numbered
+pub mod Shown

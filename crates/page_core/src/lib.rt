@@ -1,13 +1,15 @@
-//! Memory and its pages: the two views of one memory, pages of 1,024 bytes, and images.
+//! Memory and its pages: the two views of one memory, pages of 1,024 bytes, the map of stored pages, and images.
 #![tactic(auto)]
 
 ghost use Rattle.page_core.specs.Laws.{PagesHoldBytes, BytesHoldPages, PutReadsBack, PutLeavesOthers};
 
 mod page;
+mod page_map;
 #[cfg(test)]
 mod tests;
 
 pub use page::Page;
+pub use page_map::PageMap;
 
 /// The number of pages of a memory, of 1,024 bytes each.
 pub const PAGES: u32 = 262_144;

@@ -1,4 +1,4 @@
-ghost use Rattle.std.specs.Prelude.{◌≡◌, length};
+ghost use Rattle.std.specs.Prelude.{◌≡◌, ◌+◌, ◌≤◌, ◌++◌, length, take, drop};
 ghost use Rattle.page_core.specs.Pages.{IsPage};
 
 use std::marker::Model;
@@ -38,5 +38,14 @@ impl Page {
         let mut page = [0; 1024];
         page.copy_from_slice(bytes);
         Page { bytes: page }
+    }
+
+    // Puts bytes at a place in the page.
+    pub(crate) fn put(&mut self, at: usize, bytes: &[u8])
+        requires { at + length bytes.now ≤ 1024 }
+        ensures value { self.new ≡ take at self.old ++ (bytes.now ++ drop (at + length bytes.now) self.old) }
+        ensures page { IsPage self.new }
+    {
+        self.bytes[at..at + bytes.len()].copy_from_slice(bytes);
     }
 }

@@ -1,0 +1,152 @@
+-- Bytes of one page, as a memory of pages shows them and as they are put there.
+use Rattle.std.proofs.Common.{◌≡◌, ◌≢◌, ℕ, ◌+◌, ◌-◌, ◌*◌, ◌/◌, ◌%◌, ◌<◌, ◌≤◌, List, [], ◌∷◌, ◌++◌, length, get_or, take, drop, refl, sym, ap, ap₂, ◌∙◌, arith, inl, inr, ⊎_elim, get_or-drop, get_or-take, length-append, length-drop}
+use Rattle.std.specs.Int.{w16, w32, to_le_bytes}
+use Rattle.std.proofs.lemmas.Bool.{cases_eq}
+use Rattle.std.proofs.lemmas.Bool.Decides.{leb_tells}
+use Rattle.std.proofs.lemmas.List.{append-nil, drop_all, get_or-append-add, get_or_append_left, get_or_default, length-take, length-take-le}
+use Rattle.std.proofs.lemmas.List.Elements.{All-append, All-drop, All-take}
+use Rattle.page_core.specs.Memory.{bytes, put, number_of, bytes_of}
+use Rattle.page_core.specs.Pages.{Pages, IsPage}
+use Rattle.page_core.specs.Memories.{flat}
+use Rattle.page_core.proofs.Bytes.{put-outside, put-inside}
+
+-- ---- numbers and their bytes
+pub bytes_of_8 : (v : ℕ) → v < 256 → v ∷ [] ≡ bytes_of 1 v
+unfolding bytes_of
+bytes_of_8 v small = let e : v ≡ v % 256 = omega arith in λ i. e i ∷ []
+
+pub bytes_of_16 : (v : ℕ) → to_le_bytes w16 v ≡ bytes_of 2 v
+unfolding bytes_of
+bytes_of_16 v = refl
+
+pub bytes_of_32 : (v : ℕ) → to_le_bytes w32 v ≡ bytes_of 4 v
+unfolding bytes_of
+bytes_of_32 v =
+    let third : v / 65536 ≡ v / 256 / 256 = omega arith in
+    let fourth : v / 16777216 ≡ v / 256 / 256 / 256 = omega arith in
+    λ i. v % 256 ∷ v / 256 % 256 ∷ third i % 256 ∷ fourth i % 256 ∷ []
+
+number_of_two : (b0 b1 w : ℕ) → w ≡ b0 + b1 * 256 → w ≡ number_of (b0 ∷ b1 ∷ [])
+unfolding number_of
+number_of_two b0 b1 w is = omega arith
+
+number_of_four : (b0 b1 b2 b3 w : ℕ) → w ≡ b0 + b1 * 256 + b2 * 65536 + b3 * 16777216 → w ≡ number_of (b0 ∷ b1 ∷ b2 ∷ b3 ∷ [])
+unfolding number_of
+number_of_four b0 b1 b2 b3 w is = omega arith
+
+-- ---- reading
+-- a byte of the page in which an address lies
+byte_shown : (pages : Pages) (a k : ℕ) → a % 1024 + k < 1024 → flat pages (a + k) ≡ get_or (pages (a / 1024)) (a % 1024 + k) 0
+byte_shown pages a k within =
+    let number : (a + k) / 1024 ≡ a / 1024 = omega arith in
+    let place : (a + k) % 1024 ≡ a % 1024 + k = omega arith in
+    ap₂ (λ n p. get_or (pages n) p 0) number place
+
+-- the bytes of the halfword at an even address
+two_shown : (pages : Pages) (a : ℕ) → a % 2 ≡ 0
+    → bytes (flat pages) a 2 ≡ get_or (pages (a / 1024)) (a % 1024) 0 ∷ get_or (pages (a / 1024)) (a % 1024 + 1) 0 ∷ []
+unfolding bytes
+two_shown pages a aligned = let second = byte_shown pages a 1 (omega arith) in λ i. flat pages a ∷ second i ∷ []
+
+-- the bytes of the word at an address that is a multiple of 4
+four_shown : (pages : Pages) (a : ℕ) → a % 4 ≡ 0
+    → bytes (flat pages) a 4 ≡ get_or (pages (a / 1024)) (a % 1024) 0 ∷ get_or (pages (a / 1024)) (a % 1024 + 1) 0 ∷ get_or (pages (a / 1024)) (a % 1024 + 2) 0 ∷ get_or (pages (a / 1024)) (a % 1024 + 3) 0 ∷ []
+unfolding bytes
+four_shown pages a aligned =
+    let second = byte_shown pages a 1 (omega arith) in
+    let third : flat pages (a + 1 + 1) ≡ get_or (pages (a / 1024)) (a % 1024 + 2) 0 = ap (flat pages) (omega arith) ∙ byte_shown pages a 2 (omega arith) in
+    let fourth : flat pages (a + 1 + 1 + 1) ≡ get_or (pages (a / 1024)) (a % 1024 + 3) 0 = ap (flat pages) (omega arith) ∙ byte_shown pages a 3 (omega arith) in
+    λ i. flat pages a ∷ second i ∷ third i ∷ fourth i ∷ []
+
+-- the halfword there
+pub half_shown : (pages : Pages) (a w : ℕ) → a % 2 ≡ 0
+    → w ≡ get_or (pages (a / 1024)) (a % 1024) 0 + get_or (pages (a / 1024)) (a % 1024 + 1) 0 * 256
+    → w ≡ number_of (bytes (flat pages) a 2)
+half_shown pages a w aligned is = number_of_two _ _ w is ∙ sym (ap number_of (two_shown pages a aligned))
+
+-- the word there
+pub word_shown : (pages : Pages) (a w : ℕ) → a % 4 ≡ 0
+    → w ≡ get_or (pages (a / 1024)) (a % 1024) 0 + get_or (pages (a / 1024)) (a % 1024 + 1) 0 * 256 + get_or (pages (a / 1024)) (a % 1024 + 2) 0 * 65536 + get_or (pages (a / 1024)) (a % 1024 + 3) 0 * 16777216
+    → w ≡ number_of (bytes (flat pages) a 4)
+word_shown pages a w aligned is = number_of_four _ _ _ _ w is ∙ sym (ap number_of (four_shown pages a aligned))
+
+-- ---- writing
+-- the bytes of a page in which others were put at a place
+patched_before : (page bs rest : List ℕ) (at j : ℕ) → at ≤ length page → j < at → get_or (take at page ++ (bs ++ rest)) j 0 ≡ get_or page j 0
+patched_before page bs rest at j fits h =
+    get_or_append_left (take at page) (bs ++ rest) 0 j (omega (arith, length-take-le at page fits)) ∙ get_or-take at page j 0 h
+
+patched_from : (page bs rest : List ℕ) (at j : ℕ) → at ≤ length page → get_or (take at page ++ (bs ++ rest)) (at + j) 0 ≡ get_or (bs ++ rest) j 0
+patched_from page bs rest at j fits =
+    ap (λ (n : ℕ). get_or (take at page ++ (bs ++ rest)) (n + j) 0) (sym (length-take-le at page fits)) ∙ get_or-append-add (take at page) (bs ++ rest) j 0
+
+patched_after : (page bs : List ℕ) (at j : ℕ) → at ≤ length page
+    → get_or (take at page ++ (bs ++ drop (at + length bs) page)) (at + (length bs + j)) 0 ≡ get_or page (at + (length bs + j)) 0
+patched_after page bs at j fits =
+    patched_from page bs (drop (at + length bs) page) at (length bs + j) fits
+    ∙ get_or-append-add bs (drop (at + length bs) page) j 0
+    ∙ get_or-drop (at + length bs) page j 0 ∙ ap (λ (n : ℕ). get_or page n 0) (omega arith)
+
+-- a page in which bytes were put stays a page
+pub patched_is_page : (page bs : List ℕ) (at : ℕ) → IsPage page → at + length bs ≤ 1024 → ((i : ℕ) → get_or bs i 0 < 256)
+    → IsPage (take at page ++ (bs ++ drop (at + length bs) page))
+patched_is_page page bs at is fits small = (
+  simp (length-append, length-take, length-drop) (omega (arith, is.0)),
+  All-append (λ b. b < 256) (take at page) (bs ++ drop (at + length bs) page) (All-take (λ b. b < 256) at page is.1)
+      (All-append (λ b. b < 256) bs (drop (at + length bs) page) (λ k d h. omega (arith, get_or_default bs k d 0 h, small k)) (All-drop (λ b. b < 256) (at + length bs) page is.1)),
+)
+
+-- a whole page that is put at its start
+pub patched_whole : (page bs : List ℕ) → length page ≡ 1024 → length bs ≡ 1024 → take 0 page ++ (bs ++ drop (0 + length bs) page) ≡ bs
+patched_whole page bs long size =
+    let none : drop (0 + length bs) page ≡ [] = drop_all (0 + length bs) page (omega (arith, long, size)) in
+    rw none (append-nil bs)
+
+-- bytes that are put into one page are put into the memory
+pub written : (old new : Pages) (a : ℕ) (bs : List ℕ) → length (old (a / 1024)) ≡ 1024 → a % 1024 + length bs ≤ 1024
+    → new (a / 1024) ≡ take (a % 1024) (old (a / 1024)) ++ (bs ++ drop (a % 1024 + length bs) (old (a / 1024)))
+    → ((n : ℕ) → n ≢ a / 1024 → new n ≡ old n)
+    → (k : ℕ) → flat new k ≡ put (flat old) a bs k
+written old new a bs size fits after others k =
+    ⊎_elim
+    (λ here. within here)
+    (λ away.
+    ap (λ (page : List ℕ). get_or page (k % 1024) 0) (others (k / 1024) away)
+    ∙ sym (put-outside (flat old) a bs k (⊎_elim (λ t. inr (omega (arith, t.1, away))) (λ t. inl t.1) (leb_tells a k))))
+    (cases_eq (k / 1024) (a / 1024))
+  where
+    at : ℕ
+    at = a % 1024
+
+    page : List ℕ
+    page = old (a / 1024)
+
+    other : List ℕ
+    other = take at page ++ (bs ++ drop (at + length bs) page)
+
+    now : k / 1024 ≡ a / 1024 → flat new k ≡ get_or other (k % 1024) 0
+    now here = ap (λ (p : List ℕ). get_or p (k % 1024) 0) (ap new here ∙ after)
+
+    was : k / 1024 ≡ a / 1024 → flat old k ≡ get_or page (k % 1024) 0
+    was here = ap (λ (n : ℕ). get_or (old n) (k % 1024) 0) here
+
+    within : k / 1024 ≡ a / 1024 → flat new k ≡ put (flat old) a bs k
+    within here =
+        ⊎_elim
+        (λ from. ⊎_elim
+        (λ past.
+        now here ∙ ap (λ (n : ℕ). get_or other n 0) (omega (arith, past.1, here))
+        ∙ patched_after page bs at (k - (a + length bs)) (omega (arith, size))
+        ∙ ap (λ (n : ℕ). get_or page n 0) (omega (arith, past.1, here))
+        ∙ sym (was here) ∙ sym (put-outside (flat old) a bs k (inr past.1)))
+        (λ inside.
+        now here ∙ ap (λ (n : ℕ). get_or other n 0) (omega (arith, from.1, here))
+        ∙ patched_from page bs (drop (at + length bs) page) at (k - a) (omega (arith, size))
+        ∙ get_or_append_left bs (drop (at + length bs) page) 0 (k - a) (omega (arith, from.1, inside.1))
+        ∙ sym (put-inside (flat old) a bs (k - a) (omega (arith, from.1, inside.1)))
+        ∙ ap (put (flat old) a bs) (omega (arith, from.1)))
+        (leb_tells (a + length bs) k))
+        (λ low.
+        now here ∙ patched_before page bs (drop (at + length bs) page) at (k % 1024) (omega (arith, size)) (omega (arith, low.1, here))
+        ∙ sym (was here) ∙ sym (put-outside (flat old) a bs k (inl low.1)))
+        (leb_tells a k)

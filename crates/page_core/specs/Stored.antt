@@ -1,0 +1,30 @@
+-- A finite map of stored pages, and the memory that it stands for.
+use Rattle.std.specs.Prelude.{◌≡◌, ⊤, ℕ, ◌+◌, ◌<◌, ◌≤◌, ◌==◌, ◌||◌, if◌then◌else◌, List, [], ◌∷◌, Option, Some, None, is_some, unwrap_or}
+use Rattle.page_core.specs.Pages.{Pages, IsPage, zero_page}
+use Rattle.page_core.specs.Memories.{flat}
+
+-- pages with their numbers, ascending
+abbrev pub Stored : Type 0
+Stored = List (ℕ × List ℕ)
+
+-- the numbers ascend from this one on and are below 2 ^ 18, and each page has its bytes
+abbrev pub IsStoredFrom : ℕ → Stored → Type 0
+IsStoredFrom least [] = ⊤
+IsStoredFrom least (p ∷ ps) = (least ≤ p.0) × (p.0 < 262144) × IsPage p.1 × IsStoredFrom (p.0 + 1) ps
+
+-- the page with this number, if it is stored
+abbrev pub stored_at : Stored → ℕ → Option (List ℕ)
+stored_at [] number = None
+stored_at (p ∷ ps) number = if number == p.0 then Some p.1 else stored_at ps number
+
+-- the pages of the memory: one that isn't stored is zero
+abbrev pub stored_pages : Stored → Pages
+stored_pages stored = λ number. unwrap_or (stored_at stored number) zero_page
+
+-- the byte at each address
+abbrev pub memory_of : Stored → ℕ → ℕ
+memory_of stored = flat (stored_pages stored)
+
+-- exactly this page and those that were stored are stored
+abbrev pub StoresAlso : ℕ → Stored → Stored → Type 0
+StoresAlso number old new = (n : ℕ) → is_some (stored_at new n) ≡ (n == number || is_some (stored_at old n))
