@@ -1,4 +1,5 @@
 pub mod Bytes
 pub mod Listed
 pub mod Numbered
+pub mod Ranges
 pub mod Shown

@@ -1,14 +1,16 @@
 -- Pages that are stored by their numbers.
-use Rattle.std.proofs.Common.{◌≡◌, ◌≢◌, ℕ, ◌+◌, ◌<◌, ◌≤◌, Bool, true, false, cond, eqb, List, [], ◌∷◌, length, map, Option, Some, refl, sym, ap, ◌∙◌, arith, ⊎_elim}
+use Rattle.std.proofs.Common.{◌≡◌, ◌≢◌, ℕ, ◌+◌, ◌<◌, ◌≤◌, Bool, true, false, cond, eqb, leb, List, [], ◌∷◌, length, map, Option, Some, None, refl, sym, ap, ◌∙◌, arith, ⊎_elim}
 use Rattle.std.specs.Prelude.{option_map, unwrap_or}
 use Rattle.std.proofs.lemmas.List.{length-replicate}
 use Rattle.std.specs.Ordering.{nat_cmp}
 use Rattle.std.specs.declared.cmp.Ordering.TheVariants.{Less, Equal, Greater}
+use Rattle.std.specs.declared.ops.Bound.TheVariants.{Included, Unbounded}
 use Rattle.std.specs.BTreeMap.{is_at, insert_entry}
+use Rattle.std.specs.BTreeMap.Range.{range_contains, entries_between}
 use Rattle.std.specs.Map.{lookup, set_value}
 use Rattle.std.proofs.lemmas.Bool.Decides.{nat_tests, leb_tells, eqb_tells}
 use Rattle.page_core.specs.Pages.{IsPage, zero_page}
-use Rattle.page_core.specs.Stored.{Stored, stored_at, stored_pages, IsStoredFrom}
+use Rattle.page_core.specs.Stored.{Stored, stored_at, first_from, stored_pages, IsStoredFrom}
 
 -- a number is found by its equality
 number_test : (n k : ℕ) → is_at (nat_cmp n) k ≡ eqb n k
@@ -38,6 +40,32 @@ seen_same f new old stored n view same = seen f new n ∙ seen_found f old store
 pub seen_put : {A : Type 0} (f : A → List ℕ) (new : List (ℕ × A)) (n : ℕ) (box : A) (page : List ℕ) → lookup (is_at (nat_cmp n)) new ≡ Some box → f box ≡ page
     → stored_at (map (λ e. (e.0, f e.1)) new) n ≡ Some page
 seen_put f new n box page found is = seen f new n ∙ ap (option_map f) found ∙ ap Some is
+
+-- ---- the pages from a number on
+-- the boxes whose numbers are from this one on, as a map's range has them
+abbrev pub boxes_from : {A : Type 0} → ℕ → List (ℕ × A) → List (ℕ × A)
+boxes_from least es = entries_between nat_cmp (Included least) Unbounded es
+
+from_test : (least n : ℕ) → range_contains nat_cmp (Included least) Unbounded n ≡ leb least n
+from_test least n = grind (arith, nat_tests)
+
+-- the first of boxes that are seen as pages
+abbrev pub first_seen : {A : Type 0} → (A → List ℕ) → List (ℕ × A) → Option (ℕ × List ℕ)
+first_seen f [] = None
+first_seen f (e ∷ es) = Some (e.0, f e.1)
+
+seen_from : {A : Type 0} (f : A → List ℕ) (es : List (ℕ × A)) (least : ℕ) → first_from least (map (λ e. (e.0, f e.1)) es) ≡ first_seen f (boxes_from least es)
+seen_from f [] least = refl
+seen_from f (e ∷ es) least =
+    rw (from_test least e.0)
+    (elim (leb least e.0) as (λ b. cond b (Some (e.0, f e.1)) (first_from least (map (λ e. (e.0, f e.1)) es)) ≡ first_seen f (cond b (e ∷ boxes_from least es) (boxes_from least es)))
+    [ true ↦ refl | false ↦ seen_from f es least ])
+
+-- the first page that a range found
+pub first_found : {A : Type 0} (f : A → List ℕ) (es range found : List (ℕ × A)) (stored : Stored) (least : ℕ) → map (λ e. (e.0, f e.1)) es ≡ stored
+    → range ≡ boxes_from least es → range ≡ found → first_seen f found ≡ first_from least stored
+first_found f es range found stored least view is found_is =
+    ap (first_seen f) (sym found_is ∙ is) ∙ sym (seen_from f es least) ∙ ap (first_from least) view
 
 -- ---- the order of the numbers
 cmp_less : (n k : ℕ) → n < k → nat_cmp n k ≡ Less

@@ -1,5 +1,6 @@
 -- A finite map of stored pages, and the memory that it stands for.
-use Rattle.std.specs.Prelude.{◌≡◌, ⊤, ℕ, ◌+◌, ◌<◌, ◌≤◌, ◌==◌, ◌||◌, if◌then◌else◌, List, [], ◌∷◌, Option, Some, None, is_some, unwrap_or}
+use Rattle.std.specs.Prelude.{◌≡◌, ⊤, ℕ, ◌+◌, ◌<◌, ◌≤◌, ◌==◌, ◌||◌, leb, if◌then◌else◌, List, [], ◌∷◌, IsTrue, Option, Some, None, is_some, unwrap_or}
+use Rattle.page_core.specs.Memory.{contains}
 use Rattle.page_core.specs.Pages.{Pages, IsPage, zero_page}
 use Rattle.page_core.specs.Memories.{flat}
 
@@ -17,6 +18,11 @@ abbrev pub stored_at : Stored → ℕ → Option (List ℕ)
 stored_at [] number = None
 stored_at (p ∷ ps) number = if number == p.0 then Some p.1 else stored_at ps number
 
+-- the first stored page from this number on
+abbrev pub first_from : ℕ → Stored → Option (ℕ × List ℕ)
+first_from least [] = None
+first_from least (p ∷ ps) = if leb least p.0 then Some p else first_from least ps
+
 -- the pages of the memory: one that isn't stored is zero
 abbrev pub stored_pages : Stored → Pages
 stored_pages stored = λ number. unwrap_or (stored_at stored number) zero_page
@@ -28,3 +34,7 @@ memory_of stored = flat (stored_pages stored)
 -- exactly this page and those that were stored are stored
 abbrev pub StoresAlso : ℕ → Stored → Stored → Type 0
 StoresAlso number old new = (n : ℕ) → is_some (stored_at new n) ≡ (n == number || is_some (stored_at old n))
+
+-- one of these pages isn't stored
+abbrev pub IsAbsentAmong : List ℕ → Stored → Type 0
+IsAbsentAmong pages stored = (number : ℕ) × IsTrue (contains pages number) × (stored_at stored number ≡ None)

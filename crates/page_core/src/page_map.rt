@@ -1,6 +1,6 @@
-ghost use Rattle.std.specs.Prelude.{◌≡◌, ◌≢◌, ℕ, ◌+◌, ◌%◌, ◌/◌, ◌<◌, ◌≤◌, [], ◌++◌, length, take, drop, OnOk, OnErr, option_map};
-ghost use Rattle.page_core.specs.Memory.{bytes, put, number_of, bytes_of};
-ghost use Rattle.page_core.specs.Stored.{stored_at, stored_pages, memory_of, StoresAlso};
+ghost use Rattle.std.specs.Prelude.{◌≡◌, ◌≢◌, ◌⊎◌, ◌||◌, is_some, ℕ, ◌+◌, ◌%◌, ◌/◌, ◌<◌, ◌≤◌, [], ◌++◌, length, take, drop, OnOk, OnErr, option_map};
+ghost use Rattle.page_core.specs.Memory.{bytes, put, number_of, bytes_of, contains, pages_of};
+ghost use Rattle.page_core.specs.Stored.{IsStoredFrom, stored_at, first_from, stored_pages, memory_of, StoresAlso, IsAbsentAmong};
 
 use crate::Page;
 use std::alloc::{AllocError, Global};
@@ -45,6 +45,17 @@ impl PageMap {
     {
         match self.pages.get(&page) {
             Some(content) => Some(content),
+            None => None,
+        }
+    }
+
+    /// The first stored page from a number on, with its number; None exactly where no such page is stored.
+    pub fn next_from(&self, least: u32) -> Option<(u32, &Page)>
+        ensures found { option_map (λ found. (found.0, found.1.now)) result ≡ first_from least self.now }
+        ensures stored { IsStoredFrom 0 self.now }
+    {
+        match self.pages.range(least..).next() {
+            Some((number, page)) => Some((*number, page)),
             None => None,
         }
     }
@@ -137,6 +148,27 @@ impl PageMap {
         ensures kept { OnErr result (self.new ≡ self.old) }
     {
         self.put_bytes(address, &value.to_le_bytes())
+    }
+
+    /// Puts bytes at an address, where they end at or below 2^28, and stores their pages. Where these are stored it takes
+    /// no memory; an AllocError is want of memory, and then each byte is as before or as it was to be.
+    pub fn set_bytes(&mut self, address: u32, bytes: &[u8]) -> Result<(), AllocError>
+        requires { address + length bytes.now ≤ 268435456 }
+        ensures written { OnOk result ((a : ℕ) → memory_of self.new a ≡ put (memory_of self.old) address bytes.now a) }
+        ensures stored { OnOk result ((n : ℕ) → is_some (stored_at self.new n) ≡ (contains (pages_of address (length bytes.now)) n || is_some (stored_at self.old n))) }
+        ensures torn { OnErr result ((a : ℕ) → (memory_of self.new a ≡ memory_of self.old a) ⊎ (memory_of self.new a ≡ put (memory_of self.old) address bytes.now a)) }
+        ensures absent { OnErr result (IsAbsentAmong (pages_of address (length bytes.now)) self.old) }
+    {
+        let mut at = address;
+        let mut rest = bytes;
+        while !rest.is_empty() {
+            let room = 1024 - (at % 1024) as usize;
+            let (part, after) = rest.split_at(room.min(rest.len()));
+            self.put_bytes(at, part)?;
+            at += part.len() as u32;
+            rest = after;
+        }
+        Ok(())
     }
 
     // Puts bytes that lie in one page at an address, and stores the page.

@@ -170,3 +170,42 @@ fn a_stored_page_is_changed_in_part_and_replaced(rt: HostRuntime) -> Result<(), 
     }
     Ok(())
 }
+
+#[test]
+fn bytes_are_set_across_pages(rt: HostRuntime) -> Result<(), Fail> {
+    let mut pages = PageMap::new(rt.alloc());
+    pages.put_page(5, &Page::of(&[7; 1024]))?;
+    // From the last two bytes of page 4 to the first two of page 6.
+    let mut bytes = [9; 1028];
+    bytes[0] = 1;
+    bytes[1027] = 2;
+    pages.set_bytes(0x13FE, &bytes)?;
+    let words = [
+        (pages.word(0x13F8), 0),
+        (pages.word(0x13FC), 0x0901_0000),
+        (pages.word(0x1400), 0x0909_0909),
+        (pages.word(0x17FC), 0x0909_0909),
+        (pages.word(0x1800), 0x0000_0209),
+        (pages.word(0x1804), 0),
+    ];
+    for (read, want) in words {
+        assert_eq!(rt; read, want);
+    }
+    pages.set_bytes(0x1000_0000, &[])?;
+    // Each stored page from a number on.
+    let first = [
+        (0, Some(4)),
+        (4, Some(4)),
+        (5, Some(5)),
+        (6, Some(6)),
+        (7, None),
+    ];
+    for (least, want) in first {
+        assert_eq!(rt;
+            pages.next_from(least).map(|found| found.0),
+            want,
+            "{least}"
+        );
+    }
+    Ok(())
+}

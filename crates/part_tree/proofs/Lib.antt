@@ -7,3 +7,4 @@ pub mod Asked
 pub mod Splits
 pub mod Shown
 pub mod Counts
+pub mod Formed

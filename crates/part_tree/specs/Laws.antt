@@ -1,9 +1,10 @@
 -- What holds of every part tree and every memory.
-use Rattle.std.specs.Prelude.{◌≡◌, ◌⊎◌, ◌↔◌, ℕ, List, ◌++◌, None, Contains, IsSome, option_map}
+use Rattle.std.specs.Prelude.{◌≡◌, ◌⊎◌, ◌↔◌, ℕ, ◌<◌, ◌≤◌, List, ◌++◌, length, All, None, Contains, IsSome, option_map}
 use Rattle.digest_core.specs.Digests.{IsBytes}
 use Rattle.page_core.specs.Pages.{Pages, ArePages, with_page}
 use Rattle.part_tree.specs.Tree.{node, tree_strings, IsBelow}
 use Rattle.part_tree.specs.Part.{Part, IsPart, root_of, part_strings, opened, page_at, fill, put, Agree, part_of}
+use Rattle.part_tree.specs.Canonical.{IsCanonical}
 use Rattle.part_tree.specs.Splits.{split_of, Exhibits}
 
 -- a part tree that agrees with a memory splits nowhere from it
@@ -55,6 +56,10 @@ PartAgrees H = (m : Pages) (pages : List ℕ) (h i : ℕ) → Agree H m h i (par
 -- and opens exactly the pages that are asked for
 abbrev pub PartOpens : (List ℕ → List ℕ) → Type 0
 PartOpens H = (m : Pages) (pages : List ℕ) (h i number : ℕ) → Contains (opened i (part_of H m pages h i)) number ↔ (Contains pages number × IsBelow h i number)
+
+-- where these are 1 to 4,096 pages of the memory, the tree has its canonical form
+abbrev pub PartIsCanonical : (List ℕ → List ℕ) → Type 0
+PartIsCanonical H = (m : Pages) (pages : List ℕ) → ArePages m → All (λ page. page < 262144) pages → 1 ≤ length pages → length pages ≤ 4096 → IsCanonical (part_of H m pages 18 0)
 
 -- a tree that agrees has its shape and the digest of the memory's node
 abbrev pub AgreeTells : (List ℕ → List ℕ) → Type 0

@@ -1,4 +1,4 @@
-ghost use Rattle.part_tree.specs.Laws.{AgreeUnsplit, SplitExhibits, PutKeepsAgreement, PutHasNewStrings, OpenedAreOpen, PutChangesPages, PutTwice, PutSame, PutFills, PartAgrees, PartOpens, AgreeTells, StringsAreBytes};
+ghost use Rattle.part_tree.specs.Laws.{AgreeUnsplit, SplitExhibits, PutKeepsAgreement, PutHasNewStrings, OpenedAreOpen, PutChangesPages, PutTwice, PutSame, PutFills, PartAgrees, PartOpens, PartIsCanonical, AgreeTells, StringsAreBytes};
 
 use digest_core::Digester;
 
@@ -23,11 +23,12 @@ pub fn put_laws()
     ensures fills { PutFills }
 {}
 
-/// A memory's part tree agrees with it and opens the pages that are asked for, a tree that agrees
-/// has its root, and all that is hashed are bytes.
+/// A memory's part tree agrees with it, opens the pages that are asked for and has its canonical form, a tree that
+/// agrees has its root, and all that is hashed are bytes.
 pub fn part_laws<D: Digester>()
     ensures agrees { PartAgrees D.digest_of }
     ensures opens { PartOpens D.digest_of }
+    ensures canonical { PartIsCanonical D.digest_of }
     ensures tells { AgreeTells D.digest_of }
     ensures bytes { StringsAreBytes D.digest_of }
 {}

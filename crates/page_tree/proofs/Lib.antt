@@ -1,0 +1,6 @@
+pub mod Held
+pub mod Parted
+pub mod Gathered
+pub mod Sides
+pub mod Parts
+pub mod Counted

@@ -1,0 +1,22 @@
+//! The hash tree over a whole memory, of which only the stored pages and what stands over them are held.
+#![tactic(auto)]
+
+mod build;
+mod nodes;
+mod open;
+#[cfg(test)]
+mod tests;
+mod tree;
+mod zeros;
+
+ghost use Rattle.page_tree.specs.Laws.{NodeOfPages, PartOfPages};
+
+use digest_core::Digester;
+pub use tree::PageTree;
+
+/// A digest and a part tree rest on the pages below their node alone, so a stored page of zeros and one that
+/// isn't stored are the same to them.
+pub fn memory_laws<D: Digester>()
+    ensures nodes { NodeOfPages D.digest_of }
+    ensures parts { PartOfPages D.digest_of }
+{}
