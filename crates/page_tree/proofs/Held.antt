@@ -28,7 +28,7 @@ pub at_one : (i : ℕ) (page : List ℕ) → stored_at ((i, page) ∷ []) i ≡ 
 at_one i page = elim (eqb_tells i i) [ inl same ↦ ap (λ b. cond b (Some page) None) same.0 | inr other ↦ absurd (other.1 refl) ]
 
 -- a page of zeros is a page, and so is one of two
-zeros_are : IsPage zero_page
+pub zeros_are : IsPage zero_page
 unfolding zero_page
 zeros_are = (length-replicate {A = ℕ} 1024 0, All-replicate (λ (b : ℕ). b < 256) 1024 0 (omega arith))
 

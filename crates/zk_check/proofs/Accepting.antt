@@ -1,5 +1,5 @@
--- A receipt that is accepted is answered as valid.
-use Rattle.std.proofs.Common.{◌≡◌, ◌⊎◌, inl, inr, ℕ, Bool, List, length, Option, Some, None, subst, sym, ap, ◌∙◌}
+-- A receipt that is accepted is answered as valid, and an ELF file that fails no test with its id.
+use Rattle.std.proofs.Common.{◌≡◌, ◌≤◌, ◌⊎◌, inl, inr, ℕ, Bool, List, length, Option, Some, None, subst, sym, ap, ◌∙◌}
 use Rattle.std.proofs.lemmas.Bool.{le-leb}
 use Rattle.std.specs.Prelude.{MatchBool}
 use Rattle.outside.specs.Files.{Files}
@@ -10,17 +10,35 @@ use Rattle.receipt_types.specs.Laws.{LimitsGiveForm}
 use Rattle.receipt_codec.specs.Reading.{OneSpelled}
 use Rattle.check_core.specs.Judgement.{Accepts, first_stop}
 use Rattle.check_core.specs.Laws.{AcceptedUnstopped}
+use Rattle.elf_image.specs.Tests.{elf_fault}
 use Rattle.zk_check.specs.declared.status.Status.{Status}
 use Rattle.zk_check.specs.declared.status.Status.TheVariants.{Done, TooLong, ReadFault, Memory}
-use Rattle.zk_check.specs.Words.{Job}
+use Rattle.zk_check.specs.Words.{Job, check, identify, file_of, limit_of, job_of}
 use Rattle.zk_check.specs.Lines.{too_long_lines}
 use Rattle.zk_check.specs.OneSeal.{one_seal, SpellsOne}
-use Rattle.zk_check.specs.Answers.{receipt_limit, IsStopped, Judged, AnswersFile, AnswersJob, Answers}
-use Rattle.zk_check.specs.Ends.{NamesAccepted, IsDoneOrFails}
+use Rattle.zk_check.specs.Answers.{IsStopped, Judged, Identified, AnswersBytes, AnswersFile, AnswersJob, Answers}
+use Rattle.zk_check.specs.Ends.{NamesAccepted, NamesLoaded, IsDoneOrFails}
 use Rattle.zk_check.proofs.Spelled.{same_seal}
 
 none_not_some : {A : Type 0} {B : Type 0} (x : A) → None ≡ Some x → B
 none_not_some x e = absurd (cc)
+
+-- the answer to the bytes of the file that is there
+answers_of : (H : List ℕ → List ℕ) (words : List (List ℕ)) (told : Option Files) (status : Status) (lines : List ℕ) → Answers H words told status lines
+    → (job : Job) → job_of words ≡ Some job → (files : Files) → told ≡ Some files → (bytes : List ℕ) → files (file_of job) ≡ Some bytes → length bytes ≤ limit_of job
+    → AnswersBytes H job bytes status lines
+answers_of H words told status lines answers job is_job files is_told bytes held within =
+    subst (λ (b : Bool). MatchBool b (AnswersBytes H job bytes status lines) ((status ≡ TooLong) × (lines ≡ too_long_lines (file_of job))))
+    (le-leb (length bytes) (limit_of job) within) of_held
+  where
+    of_job : AnswersJob H (Some job) told status lines
+    of_job = subst (λ (o : Option Job). AnswersJob H o told status lines) is_job answers
+
+    of_files : AnswersFile H job (files (file_of job)) status lines
+    of_files = subst (λ (o : Option Files). AnswersJob H (Some job) o status lines) is_told of_job
+
+    of_held : AnswersFile H job (Some bytes) status lines
+    of_held = subst (λ (o : Option (List ℕ)). AnswersFile H job o status lines) held of_files
 
 module _ (H : List ℕ → List ℕ) (one : OneSpelled seal_bytes SealLimits) (law : AcceptedUnstopped H) (form : LimitsGiveForm) where
   -- nothing stops it
@@ -40,26 +58,25 @@ module _ (H : List ℕ → List ℕ) (one : OneSpelled seal_bytes SealLimits) (l
   -- the status of the answer
   pub answers_done : (words : List (List ℕ)) (told : Option Files) (status : Status) (lines : List ℕ) → Answers H words told status lines → NamesAccepted H words told → status ≡ Done
   answers_done words told status lines answers named =
-      judged_done named.job.id named.bytes lines status named.seal named.spelled named.accepted of_bytes
-    where
-      of_job : AnswersJob H (Some named.job) told status lines
-      of_job = subst (λ (o : Option Job). AnswersJob H o told status lines) named.is_job answers
-
-      of_files : AnswersFile H named.job (named.files named.job.receipt) status lines
-      of_files = subst (λ (o : Option Files). AnswersJob H (Some named.job) o status lines) named.is_told of_job
-
-      of_held : AnswersFile H named.job (Some named.bytes) status lines
-      of_held = subst (λ (o : Option (List ℕ)). AnswersFile H named.job o status lines) named.held of_files
-
-      of_bytes : Judged H named.job.id named.bytes status lines
-      of_bytes =
-          subst (λ (b : Bool). MatchBool b (Judged H named.job.id named.bytes status lines) ((status ≡ TooLong) × (lines ≡ too_long_lines named.job.receipt)))
-          (le-leb (length named.bytes) receipt_limit named.within) of_held
+      judged_done named.id named.bytes lines status named.seal named.spelled named.accepted
+      (answers_of H words told status lines answers (check named.receipt named.id) named.is_job named.files named.is_told named.bytes named.held named.within)
 
   pub accepted_ends : (words : List (List ℕ)) (told : Option Files) (status : Status) (lines : List ℕ) → Answers H words told status lines → NamesAccepted H words told
       → IsDoneOrFails status
   accepted_ends words told status lines answers named =
       subst (λ (s : Status). IsDoneOrFails s) (sym (answers_done words told status lines answers named)) tt
+
+-- an ELF file that fails no test is answered with its id
+identified_done : (H : List ℕ → List ℕ) (bytes : List ℕ) (status : Status) (lines : List ℕ) → elf_fault bytes ≡ None → Identified H bytes status lines → status ≡ Done
+identified_done H bytes status lines passes (inl identified) = identified.0
+identified_done H bytes status lines passes (inr (bad, is_bad)) = none_not_some is_bad.stop (sym passes ∙ is_bad.is_first)
+
+pub loaded_ends : (H : List ℕ → List ℕ) (words : List (List ℕ)) (told : Option Files) (status : Status) (lines : List ℕ) → Answers H words told status lines → NamesLoaded words told
+    → IsDoneOrFails status
+loaded_ends H words told status lines answers named =
+    subst (λ (s : Status). IsDoneOrFails s)
+    (sym (identified_done H named.bytes status lines named.passes
+    (answers_of H words told status lines answers (identify named.elf) named.is_job named.files named.is_told named.bytes named.held named.within))) tt
 
 pub silent_ends : (status : Status) (Rises : Type 0) → (status ≡ Memory) ⊎ ((status ≡ ReadFault) × Rises) → IsDoneOrFails status
 silent_ends status Rises (inl e) = subst (λ (s : Status). IsDoneOrFails s) (sym e) tt

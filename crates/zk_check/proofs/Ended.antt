@@ -6,10 +6,10 @@ use Rattle.receipt_types.specs.Laws.{LimitsGiveForm}
 use Rattle.check_core.specs.Laws.{Headline}
 use Rattle.zk_check.specs.declared.status.Status.{Status}
 use Rattle.zk_check.specs.declared.status.Status.TheVariants.{Done, Refused, Words, ReadFault, WriteFault, Memory, NoFile, TooLong, BadFile, Collision}
-use Rattle.zk_check.specs.Words.{Job, job_of}
+use Rattle.zk_check.specs.Words.{Job, check, identify, limit_of, job_of}
 use Rattle.zk_check.specs.OneSeal.{one_seal}
-use Rattle.zk_check.specs.Answers.{receipt_limit, IsValid, IsHeadlined, Judged, AnswersFile, AnswersJob, Answers}
-use Rattle.zk_check.specs.Ends.{OnBytes, OnReceipt, Ends, IsPrinted}
+use Rattle.zk_check.specs.Answers.{IsValid, IsHeadlined, IsIdentified, Judged, Identified, AnswersFile, AnswersJob, Answers}
+use Rattle.zk_check.specs.Ends.{OnBytes, OnReceipt, OnElf, IsValidPut, IsIdentifiedPut, Ends, IsPrinted}
 use Rattle.std.specs.Io.KnownBytes.{append_known}
 
 module _ (H : List ℕ → List ℕ) where
@@ -36,26 +36,58 @@ module _ (H : List ℕ → List ℕ) where
   words_not_done : {A : Type 0} → Done ≡ Words → A
   words_not_done e = absurd (cc)
 
-  judged_headlined : Headline H → LimitsGiveForm → (id bytes lines : List ℕ) (fits : Bool) (Q : Type 0) → MatchBool fits (Judged H id bytes Done lines) ((Done ≡ TooLong) × Q) → IsHeadlined H id bytes
-  judged_headlined law form id bytes lines true Q (inl valid) = valid_headlined law form id bytes lines valid.1
-  judged_headlined law form id bytes lines true Q (inr refused) = refused_not_done refused.0
-  judged_headlined law form id bytes lines false Q long = too_long_not_done long.0
+  bad_not_done : {A : Type 0} → Done ≡ BadFile → A
+  bad_not_done e = absurd (cc)
 
-  file_headlined : Headline H → LimitsGiveForm → (job : Option Job) (told : Option Files) (lines : List ℕ) → AnswersJob H job told Done lines
-      → OnReceipt job told (λ job bytes. IsHeadlined H job.id bytes)
-  file_headlined law form None told lines answer = words_not_done answer.0
-  file_headlined law form (Some job) None lines answer = tt
-  file_headlined law form (Some job) (Some files) lines answer = on_bytes (files job.receipt) answer
+  -- ---- what a status of 0 says of the file's bytes
+  judged_valid : (id bytes lines : List ℕ) (fits : Bool) (Q : Type 0) → MatchBool fits (Judged H id bytes Done lines) ((Done ≡ TooLong) × Q) → IsValid H id bytes lines
+  judged_valid id bytes lines true Q (inl valid) = valid.1
+  judged_valid id bytes lines true Q (inr refused) = refused_not_done refused.0
+  judged_valid id bytes lines false Q long = too_long_not_done long.0
+
+  is_identified : (bytes lines : List ℕ) (fits : Bool) (Q : Type 0) → MatchBool fits (Identified H bytes Done lines) ((Done ≡ TooLong) × Q) → IsIdentified H bytes lines
+  is_identified bytes lines true Q (inl identified) = identified.1
+  is_identified bytes lines true Q (inr bad) = bad_not_done bad.0
+  is_identified bytes lines false Q long = too_long_not_done long.0
+
+  on_receipt : (P : List ℕ → List ℕ → Type 0) (job : Option Job) (told : Option Files) (lines : List ℕ) → AnswersJob H job told Done lines
+      → ((id bytes : List ℕ) → IsValid H id bytes lines → P id bytes) → OnReceipt job told P
+  on_receipt P None told lines answer then = words_not_done answer.0
+  on_receipt P (Some (identify elf)) told lines answer then = tt
+  on_receipt P (Some (check receipt id)) None lines answer then = tt
+  on_receipt P (Some (check receipt id)) (Some files) lines answer then = on_bytes (files receipt) answer
     where
-      on_bytes : (held : Option (List ℕ)) → AnswersFile H job held Done lines → OnBytes job held (λ job bytes. IsHeadlined H job.id bytes)
+      on_bytes : (held : Option (List ℕ)) → AnswersFile H (check receipt id) held Done lines → OnBytes held (P id)
       on_bytes None answer = no_file_not_done answer.0
-      on_bytes (Some bytes) answer = judged_headlined law form job.id bytes lines (nat_le (length bytes) receipt_limit) _ answer
+      on_bytes (Some bytes) answer = then id bytes (judged_valid id bytes lines (nat_le (length bytes) (limit_of (check receipt id))) _ answer)
 
-  -- a status of 0 carries the headline
-  pub done_headlined : Headline H → LimitsGiveForm → (words : List (List ℕ)) (told : Option Files) (status : Status) (lines : List ℕ) → Answers H words told status lines
-      → status ≡ Done → OnReceipt (job_of words) told (λ job bytes. IsHeadlined H job.id bytes)
-  done_headlined law form words told status lines answer done =
-      file_headlined law form (job_of words) told lines (subst (λ (s : Status). Answers H words told s lines) done answer)
+  on_elf : (P : List ℕ → Type 0) (job : Option Job) (told : Option Files) (lines : List ℕ) → AnswersJob H job told Done lines
+      → ((bytes : List ℕ) → IsIdentified H bytes lines → P bytes) → OnElf job told P
+  on_elf P None told lines answer then = words_not_done answer.0
+  on_elf P (Some (check receipt id)) told lines answer then = tt
+  on_elf P (Some (identify elf)) None lines answer then = tt
+  on_elf P (Some (identify elf)) (Some files) lines answer then = on_bytes (files elf) answer
+    where
+      on_bytes : (held : Option (List ℕ)) → AnswersFile H (identify elf) held Done lines → OnBytes held P
+      on_bytes None answer = no_file_not_done answer.0
+      on_bytes (Some bytes) answer = then bytes (is_identified bytes lines (nat_le (length bytes) (limit_of (identify elf))) _ answer)
+
+  -- a status of 0 carries the report, the headline and the id
+  module _ (words : List (List ℕ)) (told : Option Files) (status : Status) (lines : List ℕ) (answer : Answers H words told status lines) (done : status ≡ Done) where
+    answer_done : Answers H words told Done lines
+    answer_done = subst (λ (s : Status). Answers H words told s lines) done answer
+
+    pub done_valid : (taken taken' : Option (List ℕ)) → taken' ≡ append_known taken lines → OnReceipt (job_of words) told (λ id bytes. IsValidPut H id bytes taken taken')
+    done_valid taken taken' put =
+        on_receipt (λ id bytes. IsValidPut H id bytes taken taken') (job_of words) told lines answer_done (λ id bytes valid. record { lines = lines; valid = valid; put = put })
+
+    pub done_headlined : Headline H → LimitsGiveForm → OnReceipt (job_of words) told (λ id bytes. IsHeadlined H id bytes)
+    done_headlined law form =
+        on_receipt (λ id bytes. IsHeadlined H id bytes) (job_of words) told lines answer_done (λ id bytes valid. valid_headlined law form id bytes lines valid)
+
+    pub done_identified : (taken taken' : Option (List ℕ)) → taken' ≡ append_known taken lines → OnElf (job_of words) told (λ bytes. IsIdentifiedPut H bytes taken taken')
+    done_identified taken taken' put =
+        on_elf (λ bytes. IsIdentifiedPut H bytes taken taken') (job_of words) told lines answer_done (λ bytes identified. record { lines = lines; identified = identified; put = put })
 
   -- the whole lines of an answer were put
   pub ends_printed : (words : List (List ℕ)) (told : Option Files) (status : Status) (lines : List ℕ) (taken taken' : Option (List ℕ)) → Answers H words told status lines

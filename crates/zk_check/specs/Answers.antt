@@ -13,16 +13,16 @@ use Rattle.check_core.specs.Reports.{Report, report_of}
 use Rattle.check_core.specs.Hashed.{hashed}
 use Rattle.check_core.specs.Vouching.{Vouches}
 use Rattle.digest_core.specs.Collisions.{Collides}
+use Rattle.elf_image.specs.declared.stop.ElfStop.{ElfStop}
+use Rattle.elf_image.specs.Tests.{elf_fault}
+use Rattle.elf_image.specs.Loaded.{Loads}
 use Rattle.zk_check.specs.declared.status.Status.{Status}
-use Rattle.zk_check.specs.declared.status.Status.TheVariants.{Done, Refused, Words, NoFile, TooLong}
-use Rattle.zk_check.specs.Words.{Job, job_of}
-use Rattle.zk_check.specs.Lines.{usage_lines, no_file_lines, too_long_lines, valid_lines, form_lines}
+use Rattle.zk_check.specs.declared.status.Status.TheVariants.{Done, Refused, Words, NoFile, TooLong, BadFile}
+use Rattle.zk_check.specs.Words.{Job, check, identify, file_of, limit_of, job_of}
+use Rattle.zk_check.specs.Lines.{usage_lines, no_file_lines, too_long_lines, valid_lines, id_lines, form_lines}
+use Rattle.zk_check.specs.BadElf.{bad_elf_lines}
 use Rattle.zk_check.specs.Refusals.{stop_lines}
 use Rattle.zk_check.specs.OneSeal.{one_seal, SpellsOne}
-
--- a receipt has at most 2 ^ 30 bytes
-abbrev pub receipt_limit : ℕ
-receipt_limit = 1073741824
 
 -- ---- valid
 -- the bytes spell a bundle of one seal that is accepted under the id, and the lines are those of its report
@@ -59,28 +59,52 @@ pub record IsStopped (H : List ℕ → List ℕ) (id bytes lines : List ℕ) : T
 abbrev pub Refuses : (List ℕ → List ℕ) → List ℕ → List ℕ → List ℕ → Type 0
 Refuses H id bytes lines = (IsNotOne bytes × (lines ≡ form_lines)) ⊎ IsStopped H id bytes lines
 
+-- ---- the id of a guest
+-- the bytes are an ELF file that loads an image, and the line has the image's id
+pub record IsIdentified (H : List ℕ → List ℕ) (bytes lines : List ℕ) : Type 0 where
+  pub image : Image
+  pub loads : Loads bytes image
+  pub lines_are : lines ≡ id_lines (image_id H image)
+
+-- they fail a test, this one first, and the line says so
+pub record IsBadElf (bytes lines : List ℕ) : Type 0 where
+  pub stop : ElfStop
+  pub is_first : elf_fault bytes ≡ Some stop
+  pub lines_are : lines ≡ bad_elf_lines stop
+
 -- ---- the table of answers, a row a cause, in their order
 -- the receipt's bytes were read
 abbrev pub Judged : (List ℕ → List ℕ) → List ℕ → List ℕ → Status → List ℕ → Type 0
 Judged H id bytes status lines = ((status ≡ Done) × IsValid H id bytes lines) ⊎ ((status ≡ Refused) × Refuses H id bytes lines)
 
-abbrev pub AnswersFile : (List ℕ → List ℕ) → Job → Option (List ℕ) → Status → List ℕ → Type 0
-AnswersFile H job None status lines = (status ≡ NoFile) × (lines ≡ no_file_lines job.receipt)
-AnswersFile H job (Some bytes) status lines =
-    MatchBool (nat_le (length bytes) receipt_limit) (Judged H job.id bytes status lines) ((status ≡ TooLong) × (lines ≡ too_long_lines job.receipt))
+-- the ELF file's bytes were read
+abbrev pub Identified : (List ℕ → List ℕ) → List ℕ → Status → List ℕ → Type 0
+Identified H bytes status lines = ((status ≡ Done) × IsIdentified H bytes lines) ⊎ ((status ≡ BadFile) × IsBadElf bytes lines)
 
--- what a file may answer that nothing is told of
-abbrev pub IsOfFile : Status → Type 0
-IsOfFile Done = ⊤
-IsOfFile Refused = ⊤
-IsOfFile NoFile = ⊤
-IsOfFile TooLong = ⊤
-IsOfFile status = ⊥
+abbrev pub AnswersBytes : (List ℕ → List ℕ) → Job → List ℕ → Status → List ℕ → Type 0
+AnswersBytes H (check receipt id) bytes status lines = Judged H id bytes status lines
+AnswersBytes H (identify elf) bytes status lines = Identified H bytes status lines
+
+abbrev pub AnswersFile : (List ℕ → List ℕ) → Job → Option (List ℕ) → Status → List ℕ → Type 0
+AnswersFile H job None status lines = (status ≡ NoFile) × (lines ≡ no_file_lines (file_of job))
+AnswersFile H job (Some bytes) status lines =
+    MatchBool (nat_le (length bytes) (limit_of job)) (AnswersBytes H job bytes status lines) ((status ≡ TooLong) × (lines ≡ too_long_lines (file_of job)))
+
+-- what a job may answer of a file that nothing is told of
+abbrev pub IsOfFile : Job → Status → Type 0
+IsOfFile job Done = ⊤
+IsOfFile (check receipt id) Refused = ⊤
+IsOfFile (identify elf) Refused = ⊥
+IsOfFile job NoFile = ⊤
+IsOfFile job TooLong = ⊤
+IsOfFile (check receipt id) BadFile = ⊥
+IsOfFile (identify elf) BadFile = ⊤
+IsOfFile job status = ⊥
 
 abbrev pub AnswersJob : (List ℕ → List ℕ) → Option Job → Option Files → Status → List ℕ → Type 0
 AnswersJob H None told status lines = (status ≡ Words) × (lines ≡ usage_lines)
-AnswersJob H (Some job) None status lines = IsOfFile status
-AnswersJob H (Some job) (Some files) status lines = AnswersFile H job (files job.receipt) status lines
+AnswersJob H (Some job) None status lines = IsOfFile job status
+AnswersJob H (Some job) (Some files) status lines = AnswersFile H job (files (file_of job)) status lines
 
 abbrev pub Answers : (List ℕ → List ℕ) → List (List ℕ) → Option Files → Status → List ℕ → Type 0
 Answers H words told status lines = AnswersJob H (job_of words) told status lines

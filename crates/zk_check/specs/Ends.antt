@@ -6,9 +6,10 @@ use Rattle.receipt_types.specs.Seals.{Seal}
 use Rattle.check_core.specs.Judgement.{Accepts}
 use Rattle.zk_check.specs.declared.status.Status.{Status}
 use Rattle.zk_check.specs.declared.status.Status.TheVariants.{Done, ReadFault, WriteFault, Memory}
-use Rattle.zk_check.specs.Words.{Job, job_of}
+use Rattle.elf_image.specs.Tests.{elf_fault}
+use Rattle.zk_check.specs.Words.{Job, check, identify, limit_of, job_of}
 use Rattle.zk_check.specs.OneSeal.{one_seal, SpellsOne}
-use Rattle.zk_check.specs.Answers.{receipt_limit, Answers, IsValid}
+use Rattle.zk_check.specs.Answers.{Answers, IsValid, IsIdentified}
 
 -- an answer's lines were made
 pub record IsAnswered (H : List ℕ → List ℕ) (words : List (List ℕ)) (told : Option Files) (status : Status) : Type 0 where
@@ -30,16 +31,24 @@ IsPrinted WriteFault = ⊥
 IsPrinted Memory = ⊥
 IsPrinted status = ⊤
 
--- ---- of the receipt that the words name, as far as the files are told
-abbrev pub OnBytes : Job → Option (List ℕ) → (Job → List ℕ → Type 0) → Type 0
-OnBytes job None P = ⊥
-OnBytes job (Some bytes) P = P job bytes
+-- ---- of the file that the words name, as far as the files are told
+abbrev pub OnBytes : Option (List ℕ) → (List ℕ → Type 0) → Type 0
+OnBytes None P = ⊥
+OnBytes (Some bytes) P = P bytes
 
--- there is such a job and file, and this is true of its bytes
-abbrev pub OnReceipt : Option Job → Option Files → (Job → List ℕ → Type 0) → Type 0
+-- the words name a job; where it is a check, there is its receipt, and this is true of the id and the bytes
+abbrev pub OnReceipt : Option Job → Option Files → (List ℕ → List ℕ → Type 0) → Type 0
 OnReceipt None told P = ⊥
-OnReceipt (Some job) None P = ⊤
-OnReceipt (Some job) (Some files) P = OnBytes job (files job.receipt) P
+OnReceipt (Some (identify elf)) told P = ⊤
+OnReceipt (Some (check receipt id)) None P = ⊤
+OnReceipt (Some (check receipt id)) (Some files) P = OnBytes (files receipt) (P id)
+
+-- the words name a job; where it asks for an id, there is its ELF file, and this is true of the bytes
+abbrev pub OnElf : Option Job → Option Files → (List ℕ → Type 0) → Type 0
+OnElf None told P = ⊥
+OnElf (Some (check receipt id)) told P = ⊤
+OnElf (Some (identify elf)) None P = ⊤
+OnElf (Some (identify elf)) (Some files) P = OnBytes (files elf) P
 
 -- the bytes are valid under the id, and the sink has exactly the lines of the report appended
 pub record IsValidPut (H : List ℕ → List ℕ) (id bytes : List ℕ) (taken taken' : Option (List ℕ)) : Type 0 where
@@ -47,18 +56,36 @@ pub record IsValidPut (H : List ℕ → List ℕ) (id bytes : List ℕ) (taken t
   pub valid : IsValid H id bytes lines
   pub put : taken' ≡ append_known taken lines
 
+-- the bytes load an image, and the sink has exactly the line of its id appended
+pub record IsIdentifiedPut (H : List ℕ → List ℕ) (bytes : List ℕ) (taken taken' : Option (List ℕ)) : Type 0 where
+  pub lines : List ℕ
+  pub identified : IsIdentified H bytes lines
+  pub put : taken' ≡ append_known taken lines
+
 -- the words name a file whose bytes, as told, are a receipt of one seal that is accepted under the named id
 pub record NamesAccepted (H : List ℕ → List ℕ) (words : List (List ℕ)) (told : Option Files) : Type 0 where
-  pub job : Job
-  pub is_job : job_of words ≡ Some job
+  pub receipt : List ℕ
+  pub id : List ℕ
+  pub is_job : job_of words ≡ Some (check receipt id)
   pub files : Files
   pub is_told : told ≡ Some files
   pub bytes : List ℕ
-  pub held : files job.receipt ≡ Some bytes
-  pub within : length bytes ≤ receipt_limit
+  pub held : files receipt ≡ Some bytes
+  pub within : length bytes ≤ limit_of (check receipt id)
   pub seal : Seal
   pub spelled : SpellsOne seal bytes
-  pub accepted : Accepts H (one_seal seal) job.id
+  pub accepted : Accepts H (one_seal seal) id
+
+-- the words name an ELF file whose bytes, as told, fail no test
+pub record NamesLoaded (words : List (List ℕ)) (told : Option Files) : Type 0 where
+  pub elf : List ℕ
+  pub is_job : job_of words ≡ Some (identify elf)
+  pub files : Files
+  pub is_told : told ≡ Some files
+  pub bytes : List ℕ
+  pub held : files elf ≡ Some bytes
+  pub within : length bytes ≤ limit_of (identify elf)
+  pub passes : elf_fault bytes ≡ None
 
 -- the status of what is valid, or of an end that is no answer
 abbrev pub IsDoneOrFails : Status → Type 0

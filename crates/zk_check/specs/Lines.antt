@@ -35,6 +35,9 @@ report_lines journal (first ∷ rest) =
 abbrev pub valid_lines : Report → List ℕ
 valid_lines report = line (codes "valid") ++ report_lines report.journal report.entries
 
+abbrev pub id_lines : List ℕ → List ℕ
+id_lines id = line (codes "id " ++ encode_lower id)
+
 -- ---- refusals, as far as this program judges
 abbrev pub form_lines : List ℕ
 form_lines = line (codes "refused not-built form")

@@ -1,8 +1,10 @@
-//! Checks receipts: reads one, judges it under an image id, and prints the verdict.
+//! Checks receipts: reads one, judges it under an image id, and prints the verdict. And tells the image id of a guest's
+//! ELF file.
 #![tactic(auto)]
 
 #[cfg(test)]
 mod guests;
+mod identifying;
 mod job;
 mod judging;
 #[cfg(test)]

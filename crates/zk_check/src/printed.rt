@@ -1,9 +1,12 @@
 ghost use Rattle.std.specs.Prelude.{◌≡◌, string_bytes, IfOk};
 ghost use Rattle.hex.specs.Hex.{encode_lower};
-ghost use Rattle.zk_check.specs.Lines.{usage_lines, no_file_lines, too_long_lines, form_lines, image_lines};
+ghost use Rattle.zk_check.specs.Lines.{usage_lines, no_file_lines, too_long_lines, id_lines, form_lines, image_lines};
+ghost use Rattle.zk_check.specs.BadElf.{bad_elf_lines};
 
+use crate::identifying::elf_text;
 use crate::status::Status;
 use digest_core::Digest;
+use elf_image::ElfStop;
 use std::alloc::{AllocError, Global};
 
 // An answer with its lines.
@@ -49,6 +52,20 @@ impl Printed {
         ensures { IfOk result (λ printed. (printed.status ≡ Status.TooLong) × (string_bytes printed.text ≡ too_long_lines name.now)) }
     {
         Printed::new(Status::TooLong, format!(in alloc; "too-long {name}\n"))
+    }
+
+    pub(crate) fn id(alloc: Global, id: &Digest) -> Result<Printed, AllocError>
+        ensures { IfOk result (λ printed. (printed.status ≡ Status.Done) × (string_bytes printed.text ≡ id_lines id.now)) }
+    {
+        let id = digits(alloc, id)?;
+        Printed::new(Status::Done, format!(in alloc; "id {id}\n"))
+    }
+
+    pub(crate) fn bad_elf(alloc: Global, stop: ElfStop) -> Result<Printed, AllocError>
+        ensures { IfOk result (λ printed. (printed.status ≡ Status.BadFile) × (string_bytes printed.text ≡ bad_elf_lines stop)) }
+    {
+        let text = elf_text(stop);
+        Printed::new(Status::BadFile, format!(in alloc; "bad elf {text}\n"))
     }
 
     pub(crate) fn refused_form(alloc: Global) -> Result<Printed, AllocError>

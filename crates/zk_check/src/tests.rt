@@ -201,21 +201,98 @@ fn the_journal_of_a_valid_run_is_printed(rt: HostRuntime) -> Result<(), Fail> {
 }
 
 #[test]
-fn an_absent_receipt_is_named(rt: HostRuntime) -> Result<(), Fail> {
-    let (status, sink) = answered::<ShaDigester>(rt.alloc(), &["check", "r", ID], None, 0, 0)?;
-    assert_eq!(rt; status, Status::NoFile);
-    assert_eq!(rt; sink.taken(), b"no-file r\n".as_slice());
+fn an_absent_file_is_named(rt: HostRuntime) -> Result<(), Fail> {
+    let rows: [&[&str]; 2] = [&["check", "r", ID], &["id", "r"]];
+    for words in rows {
+        let (status, sink) = answered::<ShaDigester>(rt.alloc(), words, None, 0, 0)?;
+        assert_eq!(rt; status, Status::NoFile);
+        assert_eq!(rt; sink.taken(), b"no-file r\n".as_slice());
+    }
+    Ok(())
+}
+
+// The first bytes of an ELF file of the guest that halts with 7. It has a second load header, of 16 bytes of memory
+// alone, which begins at this address.
+fn elf(alloc: Global, second: u32, length: usize) -> Result<ByteList, AllocError> {
+    let words = [
+        0x464C_457F,
+        0x0001_0101,
+        0,
+        0,
+        0x00F3_0002,
+        1,
+        0x1000,
+        52,
+        0,
+        0,
+        0x0020_0034,
+        2,
+        0,
+        1,
+        116,
+        0x1000,
+        0x1000,
+        12,
+        12,
+        7,
+        4,
+        1,
+        116,
+        second,
+        second,
+        0,
+        16,
+        6,
+        4,
+        0x893,
+        0x0070_0513,
+        0x73,
+    ];
+    let mut out = Out::new(alloc);
+    for word in words {
+        out.put_u32(word)?;
+    }
+    let whole = out.finish();
+    let mut out = Out::new(alloc);
+    for byte in whole.as_slice().iter().take(length) {
+        out.put_u8(*byte)?;
+    }
+    Ok(out.finish())
+}
+
+#[test]
+fn the_id_of_an_elf_file_is_printed(rt: HostRuntime) -> Result<(), Fail> {
+    // Where the second load header begins, how many bytes of the file there are, and the answer.
+    let rows = [
+        (
+            0x2000,
+            128,
+            Status::Done,
+            "id c4228a6f22f9441888bc855f0f0f64a5460ee1e92971478cc24068c3b8172aac\n",
+        ),
+        (0x100B, 128, Status::BadFile, "bad elf 14 overlap\n"),
+        (0x2000, 127, Status::BadFile, "bad elf 11 file-range\n"),
+        (0x2000, 51, Status::BadFile, "bad elf 1 short\n"),
+    ];
+    for (second, length, wanted, line) in rows {
+        let held = elf(rt.alloc(), second, length)?;
+        let (status, sink) = answered::<ShaDigester>(rt.alloc(), &["id", "r"], Some(held), 0, 0)?;
+        assert_eq!(rt; status, wanted);
+        assert_eq!(rt; sink.taken(), line.as_bytes());
+    }
     Ok(())
 }
 
 #[test]
 fn each_call_that_fails_has_its_status(rt: HostRuntime) -> Result<(), Fail> {
     // The words, the steps of a file that is there, the status, and the number of reads.
-    let rows: [(&[&str], Option<u32>, Status, u32); 5] = [
+    let rows: [(&[&str], Option<u32>, Status, u32); 6] = [
         (&["check", "r", ID], Some(3), Status::Done, 2),
         (&["check", "r", ID], Some(2), Status::Refused, 2),
         (&["check", "r", ZEROS], Some(3), Status::Refused, 2),
         (&["check", "r", ID], None, Status::NoFile, 1),
+        // A receipt is no ELF file.
+        (&["id", "r"], Some(3), Status::BadFile, 2),
         (&["check"], Some(3), Status::Words, 0),
     ];
     for (words, steps, status, reads) in rows {
@@ -243,8 +320,12 @@ fn each_call_that_fails_has_its_status(rt: HostRuntime) -> Result<(), Fail> {
 
 #[test]
 fn words_in_no_row_give_the_usage(rt: HostRuntime) -> Result<(), Fail> {
-    let rows: [&[&str]; 6] = [
+    let rows: [&[&str]; 10] = [
         &[],
+        &["id"],
+        &["id", ""],
+        &["ID", "r"],
+        &["id", "r", ID],
         &["check", "r"],
         &["check", "r", "c422"],
         &["check", "", ID],

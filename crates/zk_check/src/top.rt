@@ -1,10 +1,12 @@
 ghost use Rattle.std.specs.Prelude.{◌≡◌, ◌+◌, ◌≤◌, ◌⊎◌, map, string_bytes, IfOk, IfErr};
 ghost use Rattle.outside.specs.Faults.{Rose};
 ghost use Rattle.zk_check.specs.Words.{job_of};
-ghost use Rattle.zk_check.specs.Answers.{Answers, IsHeadlined};
-ghost use Rattle.zk_check.specs.Ends.{Ends, IsPrinted, IsDoneOrFails, OnReceipt, IsValidPut, NamesAccepted};
+ghost use Rattle.zk_check.specs.Views.{job as seen};
+ghost use Rattle.zk_check.specs.Answers.{Answers, AnswersBytes, IsHeadlined};
+ghost use Rattle.zk_check.specs.Ends.{Ends, IsPrinted, IsDoneOrFails, OnReceipt, OnElf, IsValidPut, IsIdentifiedPut, NamesAccepted, NamesLoaded};
 
-use crate::job::parse;
+use crate::identifying::identify;
+use crate::job::{Job, parse};
 use crate::judging::judge;
 use crate::printed::Printed;
 use crate::status::Status;
@@ -15,27 +17,30 @@ use receipt_codec::spelling_laws;
 use receipt_types::limits_give_form;
 use std::alloc::{AllocError, Global};
 
-// The most bytes of a receipt.
-const RECEIPT_LIMIT: u64 = 1_073_741_824;
-
 /// Answers the words, and prints the answer in one put. The words are `check`, the receipt's name and
-/// the image id's 64 hexadecimal digits. A receipt of one entry, no links and one seal is judged; every
-/// other one is refused by form. Files are as before.
+/// the image id's 64 hexadecimal digits; or `id` and an ELF file's name. A receipt of one entry, no links
+/// and one seal is judged; every other one is refused by form. Files are as before.
 pub fn check_top<D: Digester, K: Desk, O: Sink>(
     alloc: Global,
     words: &[String],
     desk: &mut K,
     out: &mut O,
 ) -> Status
-    // With status 0 the receipt's bytes, where told, spell a bundle of one seal that is accepted under the id, and the sink has exactly
+    // With status 0 a checked receipt's bytes, where told, spell a bundle of one seal that is accepted under the id, and the sink has exactly
     // the lines of its report appended.
-    ensures valid { result ≡ Status.Done → OnReceipt (job_of (map string_bytes words.now)) (K.contents desk.old) (λ job bytes.
-        IsValidPut D.digest_of job.id bytes (O.taken out.old) (O.taken out.new)) }
+    ensures valid { result ≡ Status.Done → OnReceipt (job_of (map string_bytes words.now)) (K.contents desk.old) (λ id bytes.
+        IsValidPut D.digest_of id bytes (O.taken out.old) (O.taken out.new)) }
     // Each entry then vouches for each image of its first state's id, or two strings among those hashed for bundle and image collide.
-    ensures headline { result ≡ Status.Done → OnReceipt (job_of (map string_bytes words.now)) (K.contents desk.old) (λ job bytes.
-        IsHeadlined D.digest_of job.id bytes) }
+    ensures headline { result ≡ Status.Done → OnReceipt (job_of (map string_bytes words.now)) (K.contents desk.old) (λ id bytes.
+        IsHeadlined D.digest_of id bytes) }
     // Where those bytes spell such a bundle that is accepted under the id, the status is 0, or there was a fault or want of memory.
     ensures accepted { NamesAccepted D.digest_of (map string_bytes words.now) (K.contents desk.old) → IsDoneOrFails result }
+
+    // With status 0 an ELF file's bytes, where told, load an image, and the sink has exactly the line of its id appended.
+    ensures identified { result ≡ Status.Done → OnElf (job_of (map string_bytes words.now)) (K.contents desk.old) (λ bytes.
+        IsIdentifiedPut D.digest_of bytes (O.taken out.old) (O.taken out.new)) }
+    // Where the words name an ELF file of at most 2^26 bytes that fails no test, the status is 0, or there was a fault or want of memory.
+    ensures loaded { NamesLoaded (map string_bytes words.now) (K.contents desk.old) → IsDoneOrFails result }
 
     // The status and the lines are those of an answer, but for a fault and want of memory.
     ensures answer { Ends D.digest_of (map string_bytes words.now) (K.contents desk.old) result (O.taken out.old) (O.taken out.new) }
@@ -72,12 +77,22 @@ fn answer<D: Digester, K: Desk>(
     let Some(job) = parse(words) else {
         return or_memory(Printed::usage(alloc));
     };
-    match read_all(alloc, desk, job.receipt, RECEIPT_LIMIT) {
-        Ok(bytes) => or_memory(judge::<D>(alloc, bytes.as_slice(), &job.id)),
-        Err(ReadAllStop::NoFile) => or_memory(Printed::no_file(alloc, job.receipt)),
-        Err(ReadAllStop::TooLong) => or_memory(Printed::too_long(alloc, job.receipt)),
+    match read_all(alloc, desk, job.file(), job.limit()) {
+        Ok(bytes) => or_memory(answer_bytes::<D>(alloc, &job, bytes.as_slice())),
+        Err(ReadAllStop::NoFile) => or_memory(Printed::no_file(alloc, job.file())),
+        Err(ReadAllStop::TooLong) => or_memory(Printed::too_long(alloc, job.file())),
         Err(ReadAllStop::Fault) => Err(Status::ReadFault),
         Err(ReadAllStop::Memory) => Err(Status::Memory),
+    }
+}
+
+// The answer to the bytes of the file that a job reads.
+fn answer_bytes<D: Digester>(alloc: Global, job: &Job, bytes: &[u8]) -> Result<Printed, AllocError>
+    ensures { IfOk result (λ printed. AnswersBytes D.digest_of (seen job.now) bytes.now printed.status (string_bytes printed.text)) }
+{
+    match job {
+        Job::Check { id, .. } => judge::<D>(alloc, bytes, id),
+        Job::Id { .. } => identify::<D>(alloc, bytes),
     }
 }
 

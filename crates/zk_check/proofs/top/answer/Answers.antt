@@ -1,8 +1,9 @@
 use Rattle.std.proofs.Common.{◌≡◌, ℕ, List, map, subst}
 use Rattle.std.proofs.lemmas.Result.{IfOk-weaker, IfOk-at_ok}
 use Rattle.std.specs.Prelude.{string_bytes}
-use Rattle.zk_check.specs.Answers.{Judged}
-use Rattle.zk_check.proofs.Answered.{answers_judged}
+use Rattle.zk_check.specs.Answers.{AnswersBytes}
+use Rattle.zk_check.specs.Views.{job}
+use Rattle.zk_check.proofs.Answered.{answers_read}
 use Rattle.zk_check.proofs.top.answer.Goals as goal
 
 pub returns-in-Ok-clause-answer : goal.returns-in-Ok-clause-answer
@@ -10,6 +11,7 @@ returns-in-Ok-clause-answer g c =
     let H : List ℕ → List ℕ = g.D.Digester.digest_of in
     let read : c.as_slice.result.now ≡ c.in-Ok.bytes.items = c.as_slice.ensures in
     IfOk-weaker c.or_memory-in-Ok.result _ _
-    (λ printed made. answers_judged H (record { receipt = c.in-Some.job.receipt.now; id = c.in-Some.job.id }) c.in-Ok.bytes.items printed.status (string_bytes printed.text)
-    (subst (λ (bytes : List ℕ). Judged H c.in-Some.job.id bytes printed.status (string_bytes printed.text)) read (IfOk-at_ok _ made c.judge.ensures))
-    (map string_bytes c.args.words.now) (g.K.Desk.contents c.args.desk.now) c.in-Some.ensures.some c.in-Ok.ensures.told c.in-Ok.ensures.within) c.or_memory-in-Ok.ensures.ok
+    (λ printed made. answers_read H (job c.in-Some.job) c.in-Ok.bytes.items printed.status (string_bytes printed.text)
+    (subst (λ (bytes : List ℕ). AnswersBytes H (job c.in-Some.job) bytes printed.status (string_bytes printed.text)) read (IfOk-at_ok _ made c.answer_bytes.ensures))
+    (map string_bytes c.args.words.now) (g.K.Desk.contents c.args.desk.now) c.in-Some.ensures.some
+    (rw c.file.ensures at c.in-Ok.ensures.told) (rw c.limit.ensures at c.in-Ok.ensures.within)) c.or_memory-in-Ok.ensures.ok
