@@ -1,9 +1,10 @@
 #!/bin/bash
-# Builds zk_check, then checks a receipt under its image id and under another id.
+# Builds zk_check, prints the image id of a guest, then checks a receipt under this id and under another one.
 set -u
 cd "$(dirname "$0")/crates/zk_check" || exit 1
 
 receipt=data/halts_7.receipt
+elf=data/halts_7.elf
 id=c4228a6f22f9441888bc855f0f0f64a5460ee1e92971478cc24068c3b8172aac
 other=0000000000000000000000000000000000000000000000000000000000000000
 
@@ -24,5 +25,6 @@ trap 'rm -f "$log"' EXIT
 printf '$ rt run -- check %s %s\n' "$receipt" "$id"
 rt run -- check "$receipt" "$id" >"$log" 2>&1 || { cat "$log"; exit 1; }
 
+show 0 out/zk_check id "$elf"
 show 0 out/zk_check check "$receipt" "$id"
 show 1 out/zk_check check "$receipt" "$other"

@@ -18,6 +18,12 @@ full_fork i left right pages is some =
     let whole = ap (λ (ps : Stored). length ps) is in
     omega (arith, some, parts, whole, count_stored (2 * i) left, count_stored (2 * i + 1) right)
 
+-- a stored page is a node
+pub page_nodes : (t : Grown) → page_count t ≤ node_count t
+page_nodes bare = omega arith
+page_nodes (stored digest page) = omega arith
+page_nodes (fork digest left right) = omega (arith, page_nodes left, page_nodes right)
+
 -- one node more over two trees with a page
 more_nodes : (k a b p q : ℕ) → 1 ≤ p + q → a ≤ k * p → b ≤ k * q → 1 + (a + b) ≤ (k + 1) * (p + q)
 more_nodes k a b p q some l r = grind (arith)

@@ -53,7 +53,8 @@ impl<D: Digester> PageTree<D> {
     /// How many digests were computed when the tree was made: one for each stored page and each node over one, and 19
     /// for the heights without one. It takes no memory.
     pub fn digests(&self) -> u32
-        ensures { result ≤ 19 * length self.now + 19 }
+        ensures least { length self.now + 19 ≤ result }
+        ensures most { result ≤ 19 * length self.now + 19 }
     {
         self.top.count::<D>(18) + 19
     }

@@ -1,9 +1,8 @@
 -- What the front of some bytes says of a seal that they spell.
-use Rattle.std.proofs.Common.{◌≡◌, ℕ, ◌*◌, ◌%◌, ◌^◌, ◌<◌, List, [], ◌∷◌, ◌++◌, length, All, refl, sym, ap, ap₂, ◌∙◌, append_assoc, length-append, arith}
+use Rattle.std.proofs.Common.{◌≡◌, ℕ, ◌*◌, ◌%◌, ◌^◌, ◌<◌, List, [], ◌∷◌, ◌++◌, length, All, refl, sym, ap, ◌∙◌, append_assoc, length-append, arith}
 use Rattle.std.specs.Int.{w32, to_le_bytes, from_le_bytes}
 use Rattle.std.specs.List.{flat_map}
 use Rattle.std.proofs.lemmas.Nat.{from_le_bytes-to_le_bytes_4}
-use Rattle.std.proofs.lemmas.List.Elements.{All-head, All-tail}
 use Rattle.std.proofs.lemmas.List.Concat.{flat_map-cons}
 use Rattle.part_tree.specs.Part.{Part}
 use Rattle.part_tree.specs.Canonical.{IsCanonical}
@@ -14,6 +13,7 @@ use Rattle.receipt_types.specs.Spelling.{tree_bytes, seal_bytes}
 use Rattle.receipt_codec.specs.declared.seal.Fields.{Fields}
 use Rattle.receipt_codec.specs.Reading.{NoneSpelled, OneSpelled}
 use Rattle.receipt_codec.specs.Fields.{fields_bytes, FieldLimits, AreWords}
+use Rattle.receipt_codec.proofs.Items.{all_fit, one_list}
 use Rattle.receipt_codec.proofs.Trees.{one_canonical}
 
 -- ---- numbers and words
@@ -118,14 +118,9 @@ no_seal_tree f words bytes after more keep spelled are_words spelled_words none 
 -- as many words have bytes of their own
 pub one_words : (ws vs : List ℕ) (x y : List ℕ) → length ws ≡ length vs → All (λ w. w < 2 ^ 32) ws → All (λ w. w < 2 ^ 32) vs
     → flat_map (to_le_bytes w32) ws ++ x ≡ flat_map (to_le_bytes w32) vs ++ y → (ws ≡ vs) × (x ≡ y)
-one_words [] [] x y n p q same = (refl, same)
-one_words [] (v ∷ vs) x y n p q same = absurd (omega arith)
-one_words (w ∷ ws) [] x y n p q same = absurd (omega arith)
-one_words (w ∷ ws) (v ∷ vs) x y n p q same =
+one_words ws vs x y n p q same =
     let P : ℕ → Type 0 = λ word. word < 2 ^ 32 in
-    let head = one_number w v (flat_map (to_le_bytes w32) ws ++ x) (flat_map (to_le_bytes w32) vs ++ y) (All-head P w ws p) (All-head P v vs q) same in
-    let tail = one_words ws vs x y (omega arith) (All-tail P w ws p) (All-tail P v vs q) head.1 in
-    (ap₂ ◌∷◌ head.0 tail.0, tail.1)
+    one_list (to_le_bytes w32) (λ at. P) (λ at. one_number) 0 ws vs x y n (all_fit P 0 ws p) (all_fit P 0 vs q) same
 
 -- seals with the same fields are the same
 abbrev seal_of : ℕ → ℕ → List ℕ → Part → Seal

@@ -1,11 +1,21 @@
 -- Bundles of entries.
 use Rattle.std.specs.Prelude.{◌≢◌, ℕ, zero, suc, List, [], ◌∷◌, Option, Some, None}
-use Rattle.receipt_types.specs.Seals.{Seal, IsSeal}
+use Rattle.std.specs.Coded.{Coded, code_by, coded×, coded_ℕ, coded_list}
+use Rattle.std.proofs.Common.{refl}
+use Rattle.receipt_types.specs.Seals.{Seal, IsSeal, seal_code}
 
 -- a chain of seals, and for each of its calls the number of an entry
 pub record Entry : Type 0 where
   pub links : List ℕ
   pub seals : List Seal
+
+-- an entry is stored as its fields
+abbrev pub entry_code : Coded Entry
+entry_code =
+    code_by (List ℕ × List Seal) (coded× (coded_list coded_ℕ) (coded_list seal_code))
+    (λ e. (e.links, e.seals))
+    (λ p. record { links = p.0; seals = p.1 })
+    (λ _. refl)
 
 -- a receipt, its entries numbered from 0
 abbrev pub Bundle : Type 0
