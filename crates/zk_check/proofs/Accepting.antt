@@ -1,13 +1,14 @@
 -- A receipt that is accepted is answered as valid, and an ELF file that fails no test with its id.
-use Rattle.std.proofs.Common.{◌≡◌, ◌≤◌, ◌⊎◌, inl, inr, ℕ, Bool, List, length, Option, Some, None, subst, sym, ap, ◌∙◌}
+use Rattle.std.proofs.Common.{◌≡◌, ◌≤◌, ◌⊎◌, inl, inr, ℕ, ◌/◌, ◌%◌, Bool, List, [], ◌++◌, length, get_or, Option, Some, None, subst, sym, ap, ◌∙◌, arith}
 use Rattle.std.proofs.lemmas.Bool.{le-leb}
 use Rattle.std.specs.Prelude.{MatchBool}
 use Rattle.outside.specs.Files.{Files}
 use Rattle.receipt_types.specs.Seals.{Seal}
-use Rattle.receipt_types.specs.Limits.{SealLimits}
-use Rattle.receipt_types.specs.Spelling.{seal_bytes}
+use Rattle.receipt_types.specs.Bundles.{Bundle}
+use Rattle.receipt_types.specs.Limits.{KeepsLimits}
+use Rattle.receipt_types.specs.Spelling.{Spells, bundle_bytes}
 use Rattle.receipt_types.specs.Laws.{LimitsGiveForm}
-use Rattle.receipt_codec.specs.Reading.{OneSpelled}
+use Rattle.receipt_codec.specs.Reading.{OneSpelled, BeginsVersion}
 use Rattle.check_core.specs.Judgement.{Accepts, first_stop}
 use Rattle.check_core.specs.Laws.{AcceptedUnstopped}
 use Rattle.elf_image.specs.Tests.{elf_fault}
@@ -18,7 +19,6 @@ use Rattle.zk_check.specs.Lines.{too_long_lines}
 use Rattle.zk_check.specs.OneSeal.{one_seal, SpellsOne}
 use Rattle.zk_check.specs.Answers.{IsStopped, Judged, Identified, AnswersBytes, AnswersFile, AnswersJob, Answers}
 use Rattle.zk_check.specs.Ends.{NamesAccepted, NamesLoaded, IsDoneOrFails}
-use Rattle.zk_check.proofs.Spelled.{same_seal}
 
 none_not_some : {A : Type 0} {B : Type 0} (x : A) → None ≡ Some x → B
 none_not_some x e = absurd (cc)
@@ -40,20 +40,35 @@ answers_of H words told status lines answers job is_job files is_told bytes held
     of_held : AnswersFile H job (Some bytes) status lines
     of_held = subst (λ (o : Option (List ℕ)). AnswersFile H job o status lines) held of_files
 
-module _ (H : List ℕ → List ℕ) (one : OneSpelled seal_bytes SealLimits) (law : AcceptedUnstopped H) (form : LimitsGiveForm) where
+-- bytes spell one bundle at most
+same_bundle : OneSpelled bundle_bytes KeepsLimits → (bytes : List ℕ) (x y : Bundle) → Spells x bytes → Spells y bytes → x ≡ y
+same_bundle one bytes x y left right = (one x y [] [] left.limits right.limits (ap (λ (b : List ℕ). b ++ []) (sym left.is ∙ right.is))).0
+
+-- and none where they begin with another version
+other_version : (bytes : List ℕ) (B : Bundle) (version : ℕ) → BeginsVersion version bytes → Spells B bytes → ⊥
+other_version bytes B version begins spelled =
+    let same = sym begins.is ∙ spelled.is in
+    let low : version % 256 ≡ 1 = ap (λ (b : List ℕ). get_or b 4 0) same in
+    let high : version / 256 % 256 ≡ 0 = ap (λ (b : List ℕ). get_or b 5 0) same in
+    begins.other (omega (arith, low, high, begins.fits))
+
+module _ (H : List ℕ → List ℕ) (one : OneSpelled bundle_bytes KeepsLimits) (law : AcceptedUnstopped H) (form : LimitsGiveForm) where
   -- nothing stops it
   not_stopped : (id bytes lines : List ℕ) (seal : Seal) → SpellsOne seal bytes → Accepts H (one_seal seal) id → IsStopped H id bytes lines → ⊥
   not_stopped id bytes lines seal spelled accepted stopped =
       none_not_some stopped.stop (
       sym ((law (one_seal seal) id (form (one_seal seal) spelled.limits)).1 accepted)
-      ∙ ap (λ (s : Seal). first_stop H (one_seal s) id) (same_seal one bytes seal stopped.seal spelled stopped.spelled)
+      ∙ ap (λ (B : Bundle). first_stop H B id) (same_bundle one bytes (one_seal seal) (one_seal stopped.seal) spelled stopped.spelled)
       ∙ stopped.is_first
       )
 
   judged_done : (id bytes lines : List ℕ) (status : Status) (seal : Seal) → SpellsOne seal bytes → Accepts H (one_seal seal) id → Judged H id bytes status lines → status ≡ Done
   judged_done id bytes lines status seal spelled accepted (inl valid) = valid.0
-  judged_done id bytes lines status seal spelled accepted (inr (refused, inl none)) = absurd (none.0 seal spelled)
-  judged_done id bytes lines status seal spelled accepted (inr (refused, inr stopped)) = absurd (not_stopped id bytes lines seal spelled accepted stopped)
+  judged_done id bytes lines status seal spelled accepted (inr (refused, inl malformed)) = absurd (malformed.none (one_seal seal) spelled)
+  judged_done id bytes lines status seal spelled accepted (inr (refused, inr (inl other))) = absurd (other_version bytes (one_seal seal) other.version other.begins spelled)
+  judged_done id bytes lines status seal spelled accepted (inr (refused, inr (inr (inl unbuilt)))) =
+      absurd (unbuilt.other seal (same_bundle one bytes unbuilt.bundle (one_seal seal) unbuilt.spelled spelled))
+  judged_done id bytes lines status seal spelled accepted (inr (refused, inr (inr (inr stopped)))) = absurd (not_stopped id bytes lines seal spelled accepted stopped)
 
   -- the status of the answer
   pub answers_done : (words : List (List ℕ)) (told : Option Files) (status : Status) (lines : List ℕ) → Answers H words told status lines → NamesAccepted H words told → status ≡ Done

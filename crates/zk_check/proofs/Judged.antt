@@ -17,16 +17,20 @@ use Rattle.zk_check.specs.declared.status.Status.TheVariants.{Done, Refused}
 use Rattle.zk_check.specs.Lines.{valid_lines}
 use Rattle.zk_check.specs.Refusals.{stop_lines}
 use Rattle.zk_check.specs.OneSeal.{SpellsOne}
-use Rattle.zk_check.specs.Answers.{Judged}
+use Rattle.zk_check.specs.Answers.{IsStopped, Refuses, Judged}
 use Rattle.zk_check.specs.Reported.{plain_report}
 use Rattle.zk_check.proofs.Plain.{wrong_image, broken, no_end, unlinked, accepted, reported}
 
 module _ (H : List ℕ → List ℕ) (id bytes : List ℕ) (seal : Seal) (spelled : SpellsOne seal bytes) (status : Status) (lines : List ℕ) where
+  -- a stop refuses
+  stopped : IsStopped H id bytes lines → Refuses H id bytes lines
+  stopped stop = inr (inr (inr stop))
+
   pub judged_other : (found : List ℕ) → found ≡ state_digest H (before_of H seal) → found ≢ id → status ≡ Refused → lines ≡ stop_lines (WrongImage found) → Judged H id bytes status lines
   judged_other found is other refused text =
       inr (
         refused,
-        inr (record {
+        stopped (record {
           seal = seal;
           spelled = spelled;
           stop = WrongImage (state_digest H (before_of H seal));
@@ -38,19 +42,19 @@ module _ (H : List ℕ → List ℕ) (id bytes : List ℕ) (seal : Seal) (spelle
   module _ (same : state_digest H (before_of H seal) ≡ id) where
     pub judged_broken : (stop : ReplayStop) → stop_of seal ≡ Some stop → status ≡ Refused → lines ≡ stop_lines (Broken 0 0 stop) → Judged H id bytes status lines
     judged_broken stop is refused text =
-        inr (refused, inr (record { seal = seal; spelled = spelled; stop = Broken 0 0 stop; is_first = broken H seal id same stop is; lines_are = text }))
+        inr (refused, stopped (record { seal = seal; spelled = spelled; stop = Broken 0 0 stop; is_first = broken H seal id same stop is; lines_are = text }))
 
     module _ (clean : stop_of seal ≡ None) (t : State) where
       pub judged_open : ending seal ≡ Some (Split, t) → status ≡ Refused → lines ≡ stop_lines (NoEnd 0) → Judged H id bytes status lines
       judged_open ends refused text =
-          inr (refused, inr (record { seal = seal; spelled = spelled; stop = NoEnd 0; is_first = no_end H seal id same clean t ends; lines_are = text }))
+          inr (refused, stopped (record { seal = seal; spelled = spelled; stop = NoEnd 0; is_first = no_end H seal id same clean t ends; lines_are = text }))
 
       pub judged_unlinked : (code calls : ℕ) → ending seal ≡ Some (HaltedWith code, t) → calls ≡ length t.calls → calls ≢ 0 → status ≡ Refused
           → lines ≡ stop_lines (LinkCount 0 calls 0) → Judged H id bytes status lines
       judged_unlinked code calls ends count some refused text =
           inr (
             refused,
-            inr (record { seal = seal; spelled = spelled; stop = LinkCount 0 calls 0; is_first = unlinked H seal id same clean code t ends calls count some; lines_are = text }),
+            stopped (record { seal = seal; spelled = spelled; stop = LinkCount 0 calls 0; is_first = unlinked H seal id same clean code t ends calls count some; lines_are = text }),
           )
 
       pub judged_valid : (code : ℕ) (before : SystemState) → ending seal ≡ Some (HaltedWith code, t) → t.calls ≡ [] → before ≡ before_of H seal → status ≡ Done

@@ -1,5 +1,4 @@
 pub mod Plain
-pub mod Spelled
 pub mod Judged
 pub mod Answered
 pub mod Ended

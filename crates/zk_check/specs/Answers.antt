@@ -7,6 +7,7 @@ use Rattle.claim_types.specs.States.{state_digest, image_id}
 use Rattle.receipt_types.specs.Seals.{Seal}
 use Rattle.receipt_types.specs.Bundles.{Bundle}
 use Rattle.receipt_types.specs.Spelling.{Spells}
+use Rattle.receipt_codec.specs.Reading.{BeginsVersion}
 use Rattle.check_core.specs.Entries.{first_at}
 use Rattle.check_core.specs.Judgement.{Accepts, CheckStop, first_stop}
 use Rattle.check_core.specs.Reports.{Report, report_of}
@@ -19,7 +20,7 @@ use Rattle.elf_image.specs.Loaded.{Loads}
 use Rattle.zk_check.specs.declared.status.Status.{Status}
 use Rattle.zk_check.specs.declared.status.Status.TheVariants.{Done, Refused, Words, NoFile, TooLong, BadFile}
 use Rattle.zk_check.specs.Words.{Job, check, identify, file_of, limit_of, job_of}
-use Rattle.zk_check.specs.Lines.{usage_lines, no_file_lines, too_long_lines, valid_lines, id_lines, form_lines}
+use Rattle.zk_check.specs.Lines.{usage_lines, no_file_lines, too_long_lines, valid_lines, id_lines, malformed_lines, version_lines, form_lines}
 use Rattle.zk_check.specs.BadElf.{bad_elf_lines}
 use Rattle.zk_check.specs.Refusals.{stop_lines}
 use Rattle.zk_check.specs.OneSeal.{one_seal, SpellsOne}
@@ -43,11 +44,26 @@ pub record IsHeadlined (H : List ℕ → List ℕ) (id bytes : List ℕ) : Type 
       → Vouches H bundle e image ⊎ Collides H (hashed H bundle image)
 
 -- ---- refused
--- no bundle of one seal is spelled
-abbrev pub IsNotOne : List ℕ → Type 0
-IsNotOne bytes = (seal : Seal) → SpellsOne seal bytes → ⊥
+-- the bytes spell no bundle, and don't begin with another version
+pub record IsMalformed (bytes lines : List ℕ) : Type 0 where
+  pub none : (B : Bundle) → Spells B bytes → ⊥
+  pub no_version : (version : ℕ) → BeginsVersion version bytes → ⊥
+  pub lines_are : lines ≡ malformed_lines
 
--- one is, and this is the first that stops it, with its line
+-- they begin with another version
+pub record IsOtherVersion (bytes lines : List ℕ) : Type 0 where
+  pub version : ℕ
+  pub begins : BeginsVersion version bytes
+  pub lines_are : lines ≡ version_lines version
+
+-- they spell a bundle, and not of one entry, no links and one seal
+pub record IsNotBuilt (bytes lines : List ℕ) : Type 0 where
+  pub bundle : Bundle
+  pub spelled : Spells bundle bytes
+  pub other : (seal : Seal) → bundle ≡ one_seal seal → ⊥
+  pub lines_are : lines ≡ form_lines
+
+-- they spell one of that form, and this is the first that stops it, with its line
 pub record IsStopped (H : List ℕ → List ℕ) (id bytes lines : List ℕ) : Type 0 where
   pub seal : Seal
   pub spelled : SpellsOne seal bytes
@@ -55,9 +71,9 @@ pub record IsStopped (H : List ℕ → List ℕ) (id bytes lines : List ℕ) : T
   pub is_first : first_stop H (one_seal seal) id ≡ Some stop
   pub lines_are : lines ≡ stop_lines stop
 
--- by form, or by the first stop; the causes exclude one another
+-- the causes exclude one another
 abbrev pub Refuses : (List ℕ → List ℕ) → List ℕ → List ℕ → List ℕ → Type 0
-Refuses H id bytes lines = (IsNotOne bytes × (lines ≡ form_lines)) ⊎ IsStopped H id bytes lines
+Refuses H id bytes lines = IsMalformed bytes lines ⊎ (IsOtherVersion bytes lines ⊎ (IsNotBuilt bytes lines ⊎ IsStopped H id bytes lines))
 
 -- ---- the id of a guest
 -- the bytes are an ELF file that loads an image, and the line has the image's id

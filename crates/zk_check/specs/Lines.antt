@@ -39,6 +39,12 @@ abbrev pub id_lines : List ℕ → List ℕ
 id_lines id = line (codes "id " ++ encode_lower id)
 
 -- ---- refusals, as far as this program judges
+abbrev pub malformed_lines : List ℕ
+malformed_lines = line (codes "refused malformed")
+
+abbrev pub version_lines : ℕ → List ℕ
+version_lines version = line (codes "refused version " ++ decimal version)
+
 abbrev pub form_lines : List ℕ
 form_lines = line (codes "refused not-built form")
 

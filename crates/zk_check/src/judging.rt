@@ -1,4 +1,4 @@
-ghost use Rattle.std.specs.Prelude.{◌≡◌, ◌≢◌, ◌%◌, ◌↔◌, ℕ, List, IfOk, IsTrue, string_bytes, decimal};
+ghost use Rattle.std.specs.Prelude.{◌≡◌, ◌≢◌, ◌%◌, ◌↔◌, ℕ, List, IfOk, IfSome, IfNone, IsTrue, string_bytes, decimal};
 ghost use Rattle.check_core.specs.Judgement.{Broken};
 ghost use Rattle.seal_replay.specs.declared.stop.ReplayStop.TheVariants.{Memory};
 ghost use Rattle.zk_check.specs.Refusals.{stop_lines};
@@ -6,26 +6,26 @@ ghost use Rattle.claim_types.specs.States.{state_digest};
 ghost use Rattle.part_tree.specs.Part.{IsPart};
 ghost use Rattle.seal_replay.specs.Claiming.{before_of};
 ghost use Rattle.seal_replay.specs.Replaying.{EndsSo};
-ghost use Rattle.zk_check.specs.OneSeal.{SpellsOne};
+ghost use Rattle.receipt_types.specs.Seals as plain;
+ghost use Rattle.zk_check.specs.OneSeal.{one_seal, SpellsOne};
 ghost use Rattle.zk_check.specs.Answers.{Judged};
 ghost use Rattle.zk_check.specs.Lines.{valid_lines};
 ghost use Rattle.zk_check.specs.Reported.{plain_claim, plain_report, plain_text, claims_lines, counts_lines};
 
 use crate::printed::{Printed, digits};
-use crate::reader::read_one;
 use crate::refusals::{broken_text, journal_text, link_count_text, no_end_text};
 use crate::status::Status;
 use byte_cursor::ByteList;
 use claim_types::{Exit, SpanClaim, State, claim_digest, conditional_digest, state_digest};
 use digest_core::{Digest, Digester};
 use host_calls::CallList;
-use receipt_codec::ReadStop;
-use receipt_types::Seal;
+use receipt_codec::{BundleStop, read_bundle};
+use receipt_types::{Bundle, Seal};
 use rv_step::RunLog;
 use seal_replay::{ReplayStop, Replayed, replay};
 use std::alloc::{AllocError, Global};
 
-// The answer to a receipt's bytes under an id: refused by form or by the first stop, or valid.
+// The answer to a receipt's bytes under an id: refused as malformed, by version, by form or by the first stop, or valid.
 pub(crate) fn judge<D: Digester>(
     alloc: Global,
     bytes: &[u8],
@@ -33,12 +33,34 @@ pub(crate) fn judge<D: Digester>(
 ) -> Result<Printed, AllocError>
     ensures { IfOk result (λ printed. Judged D.digest_of id.now bytes.now printed.status (string_bytes printed.text)) }
 {
-    let seal = match read_one(alloc, bytes) {
-        Ok(seal) => seal,
-        Err(ReadStop::Malformed) => return Printed::refused_form(alloc),
-        Err(ReadStop::Memory) => return Err(AllocError),
+    let bundle = match read_bundle(alloc, bytes) {
+        Ok(bundle) => bundle,
+        Err(BundleStop::Malformed) => return Printed::refused_malformed(alloc),
+        Err(BundleStop::Version(version)) => return Printed::refused_version(alloc, version),
+        Err(BundleStop::Memory) => return Err(AllocError),
     };
-    judge_seal::<D>(alloc, &seal, id)
+    match one_seal(&bundle) {
+        Some(seal) => judge_seal::<D>(alloc, seal, id),
+        None => Printed::refused_form(alloc),
+    }
+}
+
+// The seal of a bundle of one entry, no links and one seal; None for every other bundle.
+fn one_seal(bundle: &Bundle) -> Option<&Seal>
+    ensures some { IfSome result (λ seal. bundle.now ≡ one_seal seal.now) }
+    ensures none { IfNone result ((seal : plain.Seal) → bundle.now ≡ one_seal seal → ⊥) }
+{
+    let [entry] = bundle.entries.as_slice() else {
+        return None;
+    };
+    let [seal] = entry.seals.as_slice() else {
+        return None;
+    };
+    if entry.links.len() == 0 {
+        Some(seal)
+    } else {
+        None
+    }
 }
 
 // The answer for a seal.

@@ -10,7 +10,6 @@ mod judging;
 #[cfg(test)]
 mod made;
 mod printed;
-mod reader;
 mod refusals;
 #[cfg(test)]
 mod refusals_tests;

@@ -2,13 +2,13 @@
 
 use crate::guests::{ASSUMES, CLOSED, HALTS_7, ILLEGAL, OPENS_5, READS_3, SAYS_HELLO};
 use crate::made::{FirstWords, receipt};
-use crate::reader::read_one;
 use crate::status::Status;
 use crate::top::check_top;
 use byte_cursor::{ByteList, Out, WordList};
 use claim_types::{State, state_digest};
 use digest_core::{Digester, ShaDigester, WeakDigester, hash};
 use outside::{MemDesk, MemFile, MemFiles, MemSink};
+use receipt_codec::read_bundle;
 use std::alloc::{AllocError, Global};
 use std::test::Fail;
 
@@ -49,7 +49,9 @@ fn listed(alloc: Global, number: u32) -> Result<WordList, AllocError> {
 
 // The image id of a receipt's seal.
 fn own_id(alloc: Global, bytes: &[u8]) -> Result<String, Fail> {
-    let seal = read_one(alloc, bytes)?;
+    let bundle = read_bundle(alloc, bytes).map_err(|_| "not read")?;
+    let entry = bundle.entries.as_slice().first().ok_or("no entry")?;
+    let seal = entry.seals.as_slice().first().ok_or("no seal")?;
     let before = State {
         pc: seal.pc,
         root: seal.tree.root::<ShaDigester>(),
@@ -121,7 +123,7 @@ fn another_id_is_refused_with_the_found_id(rt: HostRuntime) -> Result<(), Fail> 
 }
 
 #[test]
-fn other_bytes_are_refused_by_form(rt: HostRuntime) -> Result<(), Fail> {
+fn other_bytes_are_malformed(rt: HostRuntime) -> Result<(), Fail> {
     let whole = halts_7::<ShaDigester>(rt.alloc(), 3)?;
     // Nothing, the first four bytes, one byte short and one byte long.
     for length in [0, 4, 3_234, 3_236] {
@@ -144,9 +146,43 @@ fn other_bytes_are_refused_by_form(rt: HostRuntime) -> Result<(), Fail> {
         assert_eq!(rt; status, Status::Refused);
         assert_eq!(rt;
             sink.taken(),
-            b"refused not-built form\n".as_slice(),
+            b"refused malformed\n".as_slice(),
             "of {length}"
         );
+    }
+    Ok(())
+}
+
+#[test]
+fn another_version_and_another_form_are_refused(rt: HostRuntime) -> Result<(), Fail> {
+    let whole = halts_7::<ShaDigester>(rt.alloc(), 3)?;
+    // Version 9; and an entry of the one seal twice.
+    let mut version = Out::new(rt.alloc());
+    version.put_all(b"SEAL")?;
+    version.put_u16(9)?;
+    let mut twice = Out::new(rt.alloc());
+    for byte in whole.as_slice().iter().take(12) {
+        twice.put_u8(*byte)?;
+    }
+    twice.put_u32(2)?;
+    for _ in 0..2 {
+        for byte in whole.as_slice().iter().skip(16) {
+            twice.put_u8(*byte)?;
+        }
+    }
+    for (held, line) in [
+        (version.finish(), "refused version 9\n"),
+        (twice.finish(), "refused not-built form\n"),
+    ] {
+        let (status, sink) = answered::<ShaDigester>(
+            rt.alloc(),
+            &["check", "r", ID],
+            Some(held),
+            0,
+            0,
+        )?;
+        assert_eq!(rt; status, Status::Refused);
+        assert_eq!(rt; sink.taken(), line.as_bytes());
     }
     Ok(())
 }
@@ -343,7 +379,9 @@ fn words_in_no_row_give_the_usage(rt: HostRuntime) -> Result<(), Fail> {
 #[test]
 fn weak_digests_of_the_same_run(rt: HostRuntime) -> Result<(), Fail> {
     let held = halts_7::<WeakDigester>(rt.alloc(), 3)?;
-    let seal = read_one(rt.alloc(), held.as_slice())?;
+    let bundle = read_bundle(rt.alloc(), held.as_slice()).map_err(|_| "not read")?;
+    let entry = bundle.entries.as_slice().first().ok_or("no entry")?;
+    let seal = entry.seals.as_slice().first().ok_or("no seal")?;
     let page = hash::<WeakDigester>(seal.tree.page(4).ok_or("closed")?.bytes().as_slice());
     assert_eq!(rt; page.bytes().as_slice().first_chunk(), Some(&[0x96, 0x00]));
     let root = seal.tree.root::<WeakDigester>();

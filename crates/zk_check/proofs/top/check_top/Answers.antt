@@ -28,7 +28,7 @@ returns-in-Ok-put-clause-loaded g c =
 
 pub returns-in-Ok-put-clause-accepted : goal.returns-in-Ok-put-clause-accepted
 returns-in-Ok-put-clause-accepted g c =
-    accepted_ends g.D.Digester.digest_of c.spelling_laws.ensures.seals c.accepted_unstopped.ensures c.limits_give_form.ensures
+    accepted_ends g.D.Digester.digest_of c.spelling_laws.ensures.bundles c.accepted_unstopped.ensures c.limits_give_form.ensures
     (map string_bytes c.args.words.now) (g.K.Desk.contents c.args.desk.now) c.in-Ok.printed.status (string_bytes c.in-Ok.printed.text) c.in-Ok.ensures.answer
 
 pub returns-in-Ok-put-clause-answer : goal.returns-in-Ok-put-clause-answer
