@@ -1,5 +1,6 @@
 #!/bin/bash
-# Builds zk_check, prints the image id of a guest, then checks a receipt under this id and under another one.
+# Builds zk_check, prints the image id of a guest, checks a receipt under this id and under another one, and then 36 bytes
+# that claim 16,777,216 input words, in 20 MB of address space: room is made for the words that are there alone.
 set -u
 cd "$(dirname "$0")/crates/zk_check" || exit 1
 
@@ -28,3 +29,6 @@ rt run -- check "$receipt" "$id" >"$log" 2>&1 || { cat "$log"; exit 1; }
 show 0 out/zk_check id "$elf"
 show 0 out/zk_check check "$receipt" "$id"
 show 1 out/zk_check check "$receipt" "$other"
+
+ulimit -v 20000
+show 1 out/zk_check check data/claims.receipt "$id"

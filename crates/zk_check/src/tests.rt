@@ -8,7 +8,7 @@ use byte_cursor::{ByteList, Out, WordList};
 use claim_types::{State, state_digest};
 use digest_core::{Digester, ShaDigester, WeakDigester, hash};
 use outside::{MemDesk, MemFile, MemFiles, MemSink};
-use receipt_codec::read_bundle;
+use receipt_codec::{read_bundle, write_bundle};
 use std::alloc::{AllocError, Global};
 use std::test::Fail;
 
@@ -103,6 +103,15 @@ fn a_run_that_halts_is_valid(rt: HostRuntime) -> Result<(), Fail> {
     )?;
     assert_eq!(rt; status, Status::Done);
     assert_eq!(rt; sink.taken(), VALID.as_bytes());
+    Ok(())
+}
+
+#[test]
+fn a_receipt_is_read_and_written_again(rt: HostRuntime) -> Result<(), Fail> {
+    let held = halts_7::<ShaDigester>(rt.alloc(), 3)?;
+    let bundle = read_bundle(rt.alloc(), held.as_slice()).map_err(|_| "not read")?;
+    let written = write_bundle(rt.alloc(), &bundle)?;
+    assert_eq!(rt; written.as_slice(), held.as_slice());
     Ok(())
 }
 
