@@ -92,6 +92,19 @@ impl<T: Drop> ItemList<T> {
             unreachable!();
         }
     }
+
+    /// Moves the items of another list to the end, into the room that `reserve` made, and takes no memory.
+    pub fn append_spare(&mut self, more: ItemList<T>)
+        requires { length more.items ≤ self.old.spare }
+        ensures items { self.new.items ≡ self.old.items ++ more.items }
+        ensures spare { self.new.spare + length more.items ≡ self.old.spare }
+    {
+        let mut moved = more.vec;
+        self.spare -= moved.len();
+        if self.vec.append(&mut moved).is_err() {
+            unreachable!();
+        }
+    }
 }
 
 impl<T: Copy> ItemList<T> {

@@ -48,5 +48,10 @@ fn items_are_pushed_into_reserved_room(rt: HostRuntime) -> Result<(), Fail> {
     words.push_spare(7);
     assert_eq!(rt; words.len(), 3);
     assert_eq!(rt; words.as_slice(), [5u32, 6, 7].as_slice());
+    let mut more = WordList::new(rt.alloc());
+    more.push(4)?;
+    more.reserve(3)?;
+    more.append_spare(words);
+    assert_eq!(rt; more.as_slice(), [4u32, 5, 6, 7].as_slice());
     Ok(())
 }

@@ -7,8 +7,11 @@ pub mod Codes
 pub mod Images
 pub mod Made
 pub mod Members
-pub mod Judging
+pub mod Unstopped
 pub mod Links
 pub mod Hashes
 pub mod Vouched
 pub mod Called
+pub mod Chaining
+pub mod Stopping
+pub mod Steps

@@ -1,5 +1,5 @@
 -- Which bundles are accepted, and what stops the others. H is the digest function.
-use Rattle.std.specs.Prelude.{◌≡◌, ℕ, ◌+◌, Bool, cond, eqb, List, [], ◌∷◌, length, Option, Some, None, option_map}
+use Rattle.std.specs.Prelude.{◌≡◌, ℕ, ◌+◌, Bool, true, false, cond, eqb, List, [], ◌∷◌, length, Option, Some, None, option_map}
 use Rattle.std.specs.Str.{bytes_eq}
 use Rattle.host_calls.specs.declared.call.AssumeCall.{AssumeCall}
 use Rattle.rv_step.specs.Machine.{State}
@@ -15,6 +15,8 @@ use Rattle.receipt_types.specs.Seals.{Seal}
 use Rattle.seal_replay.specs.Claiming.{before_of, after_of}
 use Rattle.lift_join.specs.Joins.{same_state, chain_of}
 use Rattle.receipt_types.specs.Bundles.{Entry, Bundle}
+use Rattle.check_core.specs.declared.stop.CheckStop.{CheckStop}
+use Rattle.check_core.specs.declared.stop.CheckStop.TheVariants.{WrongImage, Broken, Unjoined, EndInside, NoEnd, LinkCount, BadLink}
 use Rattle.check_core.specs.Entries.{first_at, digest_in}
 
 -- ---- accepted
@@ -48,15 +50,6 @@ pub record Accepts (H : List ℕ → List ℕ) (B : Bundle) (id : List ℕ) : Ty
   pub entries : AllAccepted H B B
 
 -- ---- stopped
-pub data CheckStop : Type 0 where
-  WrongImage : (found : List ℕ) → CheckStop
-  Broken : (entry seal : ℕ) (stop : ReplayStop) → CheckStop
-  Unjoined : (entry seal : ℕ) (after before : SystemState) → CheckStop
-  EndInside : (entry seal : ℕ) → CheckStop
-  NoEnd : (entry : ℕ) → CheckStop
-  LinkCount : (entry calls links : ℕ) → CheckStop
-  BadLink : (entry call : ℕ) (wanted found : List ℕ) → CheckStop
-
 abbrev pub stop_unless : Bool → CheckStop → Option CheckStop
 stop_unless good stop = cond good None (Some stop)
 
@@ -75,21 +68,28 @@ joint_stop e k None before = None
 joint_stop e k (Some after) before = stop_unless (same_state after before) (Unjoined e k after before)
 
 -- it halts before the last, or the last does not
-abbrev pub end_stop : ℕ → ℕ → Option (Exit × State) → List Seal → Option CheckStop
-end_stop e k (Some (HaltedWith code, t)) [] = None
-end_stop e k (Some (HaltedWith code, t)) (next ∷ seals) = Some (EndInside e k)
-end_stop e k (Some (Split, t)) [] = Some (NoEnd e)
-end_stop e k (Some (Split, t)) (next ∷ seals) = None
-end_stop e k None seals = None
+abbrev pub exit_stop : ℕ → ℕ → Exit → Bool → Option CheckStop
+exit_stop e k (HaltedWith code) is_last = stop_unless is_last (EndInside e k)
+exit_stop e k Split is_last = cond is_last (Some (NoEnd e)) None
 
--- the seals from seal k of entry e on, after a state where there is one
+abbrev pub end_stop : ℕ → ℕ → Option (Exit × State) → Bool → Option CheckStop
+end_stop e k None is_last = None
+end_stop e k (Some end) is_last = exit_stop e k end.0 is_last
+
+-- the first of these, after a state where there is one
+abbrev pub seal_stop : (List ℕ → List ℕ) → ℕ → ℕ → Option SystemState → Seal → Bool → Option CheckStop
+seal_stop H e k last seal is_last =
+    option_or (broken_stop e k (stop_of seal)) (option_or (joint_stop e k last (before_of H seal)) (end_stop e k (ending seal) is_last))
+
+abbrev pub no_more : List Seal → Bool
+no_more [] = true
+no_more (seal ∷ seals) = false
+
+-- the seals from seal k of entry e on
 abbrev pub seals_stop : (List ℕ → List ℕ) → ℕ → ℕ → Option SystemState → List Seal → Option CheckStop
 seals_stop H e k last [] = None
 seals_stop H e k last (seal ∷ seals) =
-    option_or (broken_stop e k (stop_of seal))
-    (option_or (joint_stop e k last (before_of H seal))
-    (option_or (end_stop e k (ending seal) seals)
-    (seals_stop H e (k + 1) (option_map (after_of H seal) (ending seal)) seals)))
+    option_or (seal_stop H e k last seal (no_more seals)) (seals_stop H e (k + 1) (option_map (after_of H seal) (ending seal)) seals)
 
 abbrev pub entries_stop : (List ℕ → List ℕ) → ℕ → List Entry → Option CheckStop
 entries_stop H e [] = None

@@ -1,5 +1,7 @@
 -- What a check reports of an accepted bundle. H is the digest function.
 use Rattle.std.specs.Prelude.{ℕ, List, [], ◌∷◌, length, Option, Some, None, option_map, option_and_then}
+use Rattle.std.specs.Coded.{Coded, code_by, coded×, coded_ℕ, coded_list}
+use Rattle.std.proofs.Common.{refl}
 use Rattle.claim_types.specs.declared.claim.Exit.{Exit}
 use Rattle.claim_types.specs.declared.claim.Exit.TheVariants.{Split, Halted as HaltedWith}
 use Rattle.claim_types.specs.States.{state_digest}
@@ -20,6 +22,28 @@ pub record EntryReport : Type 0 where
   pub seals : ℕ
   pub steps : ℕ
   pub links : List ℕ
+
+-- it is stored as its fields
+abbrev pub entry_report_code : Coded EntryReport
+entry_report_code =
+    code_by (((List ℕ × ℕ) × (ℕ × List ℕ)) × ((List ℕ × List ℕ) × ((ℕ × ℕ) × (ℕ × List ℕ))))
+    (coded× (coded× (coded× (coded_list coded_ℕ) coded_ℕ) (coded× coded_ℕ (coded_list coded_ℕ)))
+    (coded× (coded× (coded_list coded_ℕ) (coded_list coded_ℕ)) (coded× (coded× coded_ℕ coded_ℕ) (coded× coded_ℕ (coded_list coded_ℕ)))))
+    (λ e. (((e.image, e.exit), (e.journal_bytes, e.journal_digest)), ((e.conditional, e.claim), ((e.calls, e.seals), (e.steps, e.links)))))
+    (λ p.
+    record {
+      image = p.0.0.0;
+      exit = p.0.0.1;
+      journal_bytes = p.0.1.0;
+      journal_digest = p.0.1.1;
+      conditional = p.1.0.0;
+      claim = p.1.0.1;
+      calls = p.1.1.0.0;
+      seals = p.1.1.0.1;
+      steps = p.1.1.1.0;
+      links = p.1.1.1.1;
+    })
+    (λ _. refl)
 
 -- entry 0's journal, and all entries
 pub record Report : Type 0 where

@@ -1,44 +1,19 @@
-//! The judgement of a bundle: which bundles are accepted and what stops the others, what an accepted bundle says of an
-//! image, and the headline: it says the truth of the image's uncut run, or two hashed strings collide.
+//! The judgement of receipts: which bundles are accepted and what stops the others, the check that decides it, what an
+//! accepted bundle says of an image, and the headline: it says the truth of the image's uncut run, or two hashed
+//! strings collide.
 #![tactic(auto)]
 
-ghost use Rattle.sha2.specs.Sha256.{sha256};
-ghost use Rattle.check_core.specs.Laws.{FaithfulVouches, FaithfulOrCollides, Headline, HashedAreBytes, AcceptedUnstopped, CallsHold, AuditIsExact, ComparedAreHashed};
+mod checking;
+mod judging;
+mod laws;
+mod report;
+mod reporting;
+mod stop;
 
-use digest_core::{Digester, ShaDigester};
-
-/// An entry that agrees with an image's uncut run vouches for it.
-pub fn faithful_vouches<D: Digester>()
-    ensures { FaithfulVouches D.digest_of }
-{}
-
-/// An accepted bundle's entry vouches for each image of its first state, or there is a collision, which an
-/// audit exhibits exactly where the entry doesn't agree with the image's uncut run.
-pub fn headline<D: Digester>()
-    ensures faithful { FaithfulOrCollides D.digest_of }
-    ensures vouches { Headline D.digest_of }
-    ensures audit { AuditIsExact D.digest_of }
-{}
-
-/// The headline for SHA-256.
-pub fn headline_of_sha()
-    ensures { Headline sha256 }
-{
-    headline::<ShaDigester>();
-}
-
-/// All that is hashed for a bundle and an image are bytes, and what an audit compares is among it.
-pub fn hashed_are_bytes<D: Digester>()
-    ensures bytes { HashedAreBytes D.digest_of }
-    ensures compared { ComparedAreHashed D.digest_of }
-{}
-
-/// A bundle is accepted exactly where nothing stops it.
-pub fn accepted_unstopped<D: Digester>()
-    ensures { AcceptedUnstopped D.digest_of }
-{}
-
-/// What an accepted entry assumes of other images holds of their uncut runs, or there is a collision.
-pub fn calls_hold<D: Digester>()
-    ensures { CallsHold D.digest_of }
-{}
+pub use checking::check;
+pub use judging::{check_bundle, first_id};
+pub use laws::{
+    accepted_unstopped, calls_hold, faithful_vouches, hashed_are_bytes, headline, headline_of_sha,
+};
+pub use report::{ClaimList, EntryClaim, Report};
+pub use stop::CheckStop;

@@ -25,8 +25,11 @@ pub struct SpanClaim {
 
 impl Model for SpanClaim {
     ghost use Rattle.claim_types.specs.Claims as spec;
+    ghost use Rattle.claim_types.specs.Codes.{claim_code};
 
     ghost Value = { spec.SpanClaim };
+
+    ghost coded = { claim_code };
 
     ghost view = { λ c. record { before = c.before; after = c.after; exit = c.exit; journal = c.journal.items; calls = c.calls.items } };
 }

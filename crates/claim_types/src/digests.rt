@@ -81,11 +81,7 @@ pub fn ok_claim_digest<D: Digester>(image: &Digest, journal: &Digest) -> Digest
     ensures { result ≡ claims.ok_digest D.digest_of (record { image = image.now; journal = journal.now }) }
 {
     let output = output_digest::<D>(journal, &zero_digest());
-    let halted = State {
-        pc: 0,
-        root: zero_digest(),
-    };
-    let after = state_digest::<D>(&halted);
+    let after = state_digest::<D>(&State::halted());
     digest_of_parts::<D>(image, &after, &output, Exit::Halted(0))
 }
 

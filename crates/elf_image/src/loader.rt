@@ -30,9 +30,7 @@ pub fn load(alloc: Global, file: &[u8]) -> Result<Image, ElfStop>
     }
     let mut map = PageMap::new(alloc);
     for load in loads.as_slice() {
-        if copy(&mut map, file, load).is_err() {
-            return Err(ElfStop::Memory);
-        }
+        copy(&mut map, file, load)?;
     }
     Ok(Image {
         entry: header.entry,

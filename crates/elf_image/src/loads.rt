@@ -73,9 +73,7 @@ pub(crate) fn load_headers(
         if let Some(fault) = load.fault(file, loads.as_slice()) {
             return Err(fault);
         }
-        if loads.push(load).is_err() {
-            return Err(ElfStop::Memory);
-        }
+        loads.push(load)?;
     }
     Ok(loads)
 }

@@ -1,3 +1,8 @@
+ghost use Rattle.std.specs.Prelude.{◌≡◌};
+ghost use Rattle.elf_image.specs.declared.stop.ElfStop.TheVariants.{Memory};
+
+use std::alloc::AllocError;
+
 /// Why a file isn't loaded: the first of fifteen tests that it fails, in this order, or want of memory. The fields are
 /// those of ELF32; a load header is a program header of type 1, and its four tests come before those of the next.
 #[derive(Clone, Copy, Debug, PartialEq, Eq)]
@@ -34,4 +39,12 @@ pub enum ElfStop {
     Entry,
     /// Want of memory.
     Memory,
+}
+
+impl From<AllocError> for ElfStop {
+    ghost from_gives = { λ _ stop. stop ≡ Memory };
+
+    fn from(_error: AllocError) -> ElfStop {
+        ElfStop::Memory
+    }
 }

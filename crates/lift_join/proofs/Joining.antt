@@ -1,5 +1,10 @@
 -- Claims may be joined in any order.
-use Rattle.std.proofs.Common.{◌≡◌, ◌≢◌, ℕ, Bool, true, false, cond, ◌&&◌, List, [], ◌∷◌, Option, Some, None, refl, sym, ap, ◌∙◌, append_assoc}
+use Rattle.std.proofs.Common.{◌≡◌, ◌≢◌, ℕ, Bool, true, false, cond, ◌&&◌, eqb, List, [], ◌∷◌, ◌++◌, Option, Some, None, refl, sym, ap, ap₂, ◌∙◌, arith, append_assoc}
+use Rattle.std.specs.Str.{bytes_eq}
+use Rattle.std.proofs.lemmas.Bool.Decides.{nat_tests}
+use Rattle.std.proofs.lemmas.Slice.Eq.{bytes_eq-Decides}
+use Rattle.claim_types.specs.declared.claim.Exit.TheVariants.{Split}
+use Rattle.claim_types.specs.declared.state.State.{State as SystemState}
 use Rattle.claim_types.specs.Claims.{SpanClaim}
 use Rattle.receipt_types.specs.Seals.{Seal}
 use Rattle.seal_replay.specs.Claiming.{claim_of}
@@ -46,3 +51,31 @@ chains_join H (x ∷ []) (y ∷ ys) n m = refl
 chains_join H (x ∷ next ∷ xs) (y ∷ ys) n m =
     ap (join_both (claim_of H x)) (chains_join H (next ∷ xs) (y ∷ ys) (not_none next xs) m)
     ∙ sym (any_order (claim_of H x) (chain_of H (next ∷ xs)) (chain_of H (y ∷ ys)))
+
+-- ---- claims that follow one another join
+pub test_bytes : (a b : List ℕ) → a ≡ b → bytes_eq a b ≡ true
+test_bytes a b h = (bytes_eq-Decides a b).1 h
+
+pub test_number : (m n : ℕ) → m ≡ n → eqb m n ≡ true
+test_number m n h = grind (arith, nat_tests)
+
+test_both : (p q : Bool) → p ≡ true → q ≡ true → (p && q) ≡ true
+test_both p q h k = ap₂ (λ (a b : Bool). a && b) h k
+
+pub test_state : (a b : SystemState) → a ≡ b → same_state a b ≡ true
+test_state a b h =
+    test_both (eqb a.pc b.pc) (bytes_eq a.root b.root) (test_number a.pc b.pc (ap (λ (s : SystemState). s.pc) h)) (test_bytes a.root b.root (ap (λ (s : SystemState). s.root) h))
+
+pub join_some : (a b : SpanClaim) → a.exit ≡ Split → a.after ≡ b.before → claim_join a b ≡ Some (joined a b)
+join_some a b split meets =
+    ap (λ (t : Bool). cond t (Some (joined a b)) None)
+    (test_both (is_split a.exit) (same_state a.after b.before) (ap is_split split) (test_state a.after b.before meets))
+
+some_seals : (H : List ℕ → List ℕ) (xs : List Seal) (a : SpanClaim) → chain_of H xs ≡ Some a → xs ≢ []
+some_seals H [] a h = absurd (cc)
+some_seals H (x ∷ xs) a h = not_none x xs
+
+pub chain_joined : (H : List ℕ → List ℕ) (xs ys : List Seal) (a b : SpanClaim) → chain_of H xs ≡ Some a → chain_of H ys ≡ Some b → a.exit ≡ Split → a.after ≡ b.before
+    → chain_of H (xs ++ ys) ≡ Some (joined a b)
+chain_joined H xs ys a b left right split meets =
+    chains_join H xs ys (some_seals H xs a left) (some_seals H ys b right) ∙ ap₂ join_both left right ∙ join_some a b split meets

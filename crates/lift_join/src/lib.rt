@@ -1,11 +1,10 @@
 //! Claims that follow one another: their join, the chain of a list of seals, and that joins may be made in any order.
 #![tactic(auto)]
 
-ghost use Rattle.lift_join.specs.Laws.{ChainsJoin};
+mod appending;
+mod joined;
+mod laws;
 
-use digest_core::Digester;
-
-/// The chain of two lists of seals is the join of their chains, so claims may be joined in any order.
-pub fn chains_join<D: Digester>()
-    ensures { ChainsJoin D.digest_of }
-{}
+pub use appending::append;
+pub use joined::{Joined, join, lift};
+pub use laws::chains_join;

@@ -4,9 +4,9 @@ use Rattle.std.proofs.Math.Bool.{or_assoc}
 use Rattle.std.proofs.lemmas.Bool.Decides.{same_from_decides, leb_tells, eqb_tells}
 use Rattle.std.proofs.lemmas.List.{append-nil, get_or_append_left, get_or-append-add}
 use Rattle.page_core.specs.Memory.{put, contains, pages_from, pages_of}
-use Rattle.page_core.specs.Stored.{Stored, stored_at, memory_of, StoresAlso, IsAbsentAmong}
+use Rattle.page_core.specs.Stored.{Stored, stored_at, memory_of, StoresAlso, StoresSome, IsAbsentAmong}
 use Rattle.page_core.proofs.Bytes.{put-outside, put-inside, put-same, in_pages_from, in_pages_of}
-use Rattle.page_core.proofs.Listed.{or_left, or_right}
+use Rattle.page_core.proofs.Listed.{or_split, or_left, or_right}
 
 -- the bytes up to an address were put into a memory of pages, and the rest of them wasn't yet
 pub record IsPutUpTo (old new : Stored) (address : ℕ) (bytes : List ℕ) (at : ℕ) (rest : List ℕ) : Type 0 where
@@ -150,6 +150,20 @@ torn_so_far old mid new address bytes at rest before kept a =
     (λ was. inl (now ∙ was))
     (λ is. inr (now ∙ is ∙ ap (λ (xs : List ℕ). put (memory_of old) address xs a) (sym before.parts)))
     (put_torn (memory_of old) address before.done rest a)
+
+-- of the pages that weren't stored, only those of the bytes are stored at a want of memory
+pub stored_so_far : (old mid new : Stored) (address : ℕ) (bytes : List ℕ) (at : ℕ) (rest : List ℕ) → IsPutUpTo old mid address bytes at rest → new ≡ mid
+    → StoresSome (pages_of address (length bytes)) old new
+stored_so_far old mid new address bytes at rest before kept = record {
+  kept = λ n was. rw (kept, before.stored n) (or_right _ _ was);
+  only = λ n is.
+      ⊎_elim
+      (λ part.
+      let among = from_pages_of address (length before.done) n part in
+      or_left _ _ (to_pages_of address (length bytes) n (omega (arith, among.0, before.reached, before.ends)) among.1 (omega (arith, among.2, before.reached, before.ends))))
+      (λ was. or_right _ _ was)
+      (or_split (contains (pages_of address (length before.done)) n) (is_some (stored_at old n)) (sym (before.stored n) ∙ ap (λ (s : Stored). is_some (stored_at s n)) (sym kept) ∙ is));
+}
 
 -- where neither of two tests holds, the second fails
 or_false : (a b : Bool) → (a || b) ≡ false → b ≡ false

@@ -36,7 +36,7 @@ number_of_four b0 b1 b2 b3 w is = omega arith
 
 -- ---- reading
 -- a byte of the page in which an address lies
-byte_shown : (pages : Pages) (a k : ℕ) → a % 1024 + k < 1024 → flat pages (a + k) ≡ get_or (pages (a / 1024)) (a % 1024 + k) 0
+pub byte_shown : (pages : Pages) (a k : ℕ) → a % 1024 + k < 1024 → flat pages (a + k) ≡ get_or (pages (a / 1024)) (a % 1024 + k) 0
 byte_shown pages a k within =
     let number : (a + k) / 1024 ≡ a / 1024 = omega arith in
     let place : (a + k) % 1024 ≡ a % 1024 + k = omega arith in

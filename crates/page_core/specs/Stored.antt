@@ -35,6 +35,11 @@ memory_of stored = flat (stored_pages stored)
 abbrev pub StoresAlso : ℕ → Stored → Stored → Type 0
 StoresAlso number old new = (n : ℕ) → is_some (stored_at new n) ≡ (n == number || is_some (stored_at old n))
 
+-- each page that was stored is stored, and each that is stored now was stored or is one of these
+pub record StoresSome (pages : List ℕ) (old new : Stored) : Type 0 where
+  pub kept : (n : ℕ) → IsTrue (is_some (stored_at old n)) → IsTrue (is_some (stored_at new n))
+  pub only : (n : ℕ) → IsTrue (is_some (stored_at new n)) → IsTrue (contains pages n || is_some (stored_at old n))
+
 -- one of these pages isn't stored
 abbrev pub IsAbsentAmong : List ℕ → Stored → Type 0
 IsAbsentAmong pages stored = (number : ℕ) × IsTrue (contains pages number) × (stored_at stored number ≡ None)

@@ -1,6 +1,6 @@
 ghost use Rattle.std.specs.Prelude.{◌≡◌, ◌≢◌, ◌⊎◌, ◌||◌, is_some, ℕ, ◌+◌, ◌%◌, ◌/◌, ◌<◌, ◌≤◌, [], ◌++◌, length, take, drop, OnOk, OnErr, option_map};
 ghost use Rattle.page_core.specs.Memory.{bytes, put, number_of, bytes_of, contains, pages_of};
-ghost use Rattle.page_core.specs.Stored.{IsStoredFrom, stored_at, first_from, stored_pages, memory_of, StoresAlso, IsAbsentAmong};
+ghost use Rattle.page_core.specs.Stored.{IsStoredFrom, stored_at, first_from, stored_pages, memory_of, StoresAlso, StoresSome, IsAbsentAmong};
 
 use crate::Page;
 use std::alloc::{AllocError, Global};
@@ -157,6 +157,7 @@ impl PageMap {
         ensures written { OnOk result ((a : ℕ) → memory_of self.new a ≡ put (memory_of self.old) address bytes.now a) }
         ensures stored { OnOk result ((n : ℕ) → is_some (stored_at self.new n) ≡ (contains (pages_of address (length bytes.now)) n || is_some (stored_at self.old n))) }
         ensures torn { OnErr result ((a : ℕ) → (memory_of self.new a ≡ memory_of self.old a) ⊎ (memory_of self.new a ≡ put (memory_of self.old) address bytes.now a)) }
+        ensures stored_some { OnErr result (StoresSome (pages_of address (length bytes.now)) self.old self.new) }
         ensures absent { OnErr result (IsAbsentAmong (pages_of address (length bytes.now)) self.old) }
     {
         let mut at = address;

@@ -10,6 +10,16 @@ fn a_page_keeps_its_bytes(rt: HostRuntime) {
     assert_eq!(rt; page.bytes().as_slice(), bytes.as_slice());
 }
 
+#[test]
+fn bytes_that_are_put_leave_the_rest_of_a_page(rt: HostRuntime) {
+    let mut bytes = [7; 1024];
+    let mut page = Page::of(&bytes);
+    page.put(1021, &[8, 9]);
+    bytes[1021] = 8;
+    bytes[1022] = 9;
+    assert_eq!(rt; page.bytes().as_slice(), bytes.as_slice());
+}
+
 #[derive(Debug, Clone, Copy)]
 enum Setter {
     Byte,

@@ -1,10 +1,10 @@
 -- The stored pages below a node: they are those below its left side and then those below its right side. And the
 -- digests of the nodes with no stored page below.
-use Rattle.std.proofs.Common.{◌≡◌, ◌≢◌, inl, inr, ℕ, zero, suc, ◌+◌, ◌-◌, ◌*◌, ◌/◌, ◌^◌, ◌<◌, ◌≤◌, false, eqb, List, [], ◌∷◌, ◌++◌, length, get_or, Some, None, refl, sym, ap, ◌∙◌, arith, below_more}
+use Rattle.std.proofs.Common.{◌≡◌, ◌≢◌, inl, inr, ℕ, zero, suc, ◌+◌, ◌-◌, ◌*◌, ◌/◌, ◌^◌, ◌<◌, ◌≤◌, List, [], ◌∷◌, ◌++◌, length, get_or, Some, None, refl, sym, ap, ◌∙◌, arith, below_more}
 use Rattle.std.proofs.Math.ListN.{set}
 use Rattle.std.proofs.Math.Pow.{shr_mono}
-use Rattle.std.proofs.lemmas.Bool.{eq-eqb}
-use Rattle.std.proofs.lemmas.Bool.Decides.{nat_tests, eqb_tells, leb_tells}
+use Rattle.std.proofs.lemmas.Bool.{eq-eqb, ne_eqb}
+use Rattle.std.proofs.lemmas.Bool.Decides.{eqb_tells, leb_tells}
 use Rattle.std.proofs.lemmas.List.{get_or_default, get_or-set_same, get_or-set_other}
 use Rattle.std.proofs.lemmas.Nat.{shl-shr, pow_pos}
 use Rattle.std.proofs.Math.Nat.{div-lt_iff_lt-mul}
@@ -15,17 +15,13 @@ use Rattle.part_tree.proofs.Below.{above}
 use Rattle.page_tree.specs.Grown.{stored_below, zero_node}
 use Rattle.page_tree.proofs.Held.{zeros_below}
 
--- numbers that differ fail their test
-other_test : (a b : ℕ) → a ≢ b → eqb a b ≡ false
-other_test a b ne = grind (arith, nat_tests)
-
 -- a page whose node has this number is taken
 taken : (h i : ℕ) (p : ℕ × List ℕ) (ps : Stored) → p.0 / 2 ^ h ≡ i → stored_below h i (p ∷ ps) ≡ p ∷ stored_below h i ps
 taken h i p ps e = rw (eq-eqb (p.0 / 2 ^ h) i e) refl
 
 -- a page whose node has another number is left
 left_out : (h i : ℕ) (p : ℕ × List ℕ) (ps : Stored) → p.0 / 2 ^ h ≢ i → stored_below h i (p ∷ ps) ≡ stored_below h i ps
-left_out h i p ps ne = rw (other_test (p.0 / 2 ^ h) i ne) refl
+left_out h i p ps ne = rw (ne_eqb (p.0 / 2 ^ h) i ne) refl
 
 -- no page from a number on is below a node that lies before that number
 none_after : (h i least : ℕ) (stored : Stored) → IsStoredFrom least stored → i < least / 2 ^ h → stored_below h i stored ≡ []

@@ -4,3 +4,4 @@ pub mod Gathered
 pub mod Sides
 pub mod Parts
 pub mod Counted
+pub mod Heights

@@ -1,5 +1,6 @@
 -- A tree that holds the stored pages of a memory and the digests over them. H is the digest function.
-use Rattle.std.specs.Prelude.{◌≡◌, ⊤, ℕ, zero, suc, ◌+◌, ◌*◌, ◌/◌, ◌^◌, ◌<◌, ◌≤◌, ◌==◌, if◌then◌else◌, List, [], ◌∷◌, ◌++◌}
+use Rattle.std.specs.Prelude.{◌≡◌, ⊤, ℕ, zero, suc, ◌+◌, ◌*◌, ◌/◌, ◌^◌, ◌<◌, ◌≤◌, ◌==◌, if◌then◌else◌, List, [], ◌∷◌, ◌++◌, length, map}
+use Rattle.page_core.specs.Memory.{ascending}
 use Rattle.page_core.specs.Pages.{Pages, IsPage, zero_page}
 use Rattle.page_core.specs.Stored.{Stored, stored_pages}
 use Rattle.part_tree.specs.Tree.{node, IsBelow}
@@ -38,6 +39,15 @@ abbrev pub node_count : Grown → ℕ
 node_count bare = 0
 node_count (stored digest page) = 1
 node_count (fork digest left right) = 1 + (node_count left + node_count right)
+
+-- the nodes of height h with a stored page at or below, by their numbers, each once
+abbrev pub nodes_over : ℕ → Stored → List ℕ
+nodes_over h pages = ascending (map (λ page. page.0 / 2 ^ h) pages)
+
+-- how many such nodes there are at heights 0 to h
+unfoldable pub nodes_up_to : ℕ → Stored → ℕ
+nodes_up_to zero pages = length (nodes_over 0 pages)
+nodes_up_to (suc h) pages = length (nodes_over (suc h) pages) + nodes_up_to h pages
 
 -- a page is stored below each fork
 abbrev pub IsFull : Grown → Type 0

@@ -4,7 +4,7 @@ ghost use Rattle.part_tree.specs.Tree.{node, root};
 ghost use Rattle.part_tree.specs.Part.{part_of};
 ghost use Rattle.part_tree.specs.Canonical.{IsCanonical};
 ghost use Rattle.part_tree.specs.Views.{part};
-ghost use Rattle.page_tree.specs.Grown.{AscendFrom};
+ghost use Rattle.page_tree.specs.Grown.{AscendFrom, nodes_up_to};
 
 use crate::build::grow;
 use crate::nodes::Node;
@@ -53,6 +53,7 @@ impl<D: Digester> PageTree<D> {
     /// How many digests were computed when the tree was made: one for each stored page and each node over one, and 19
     /// for the heights without one. It takes no memory.
     pub fn digests(&self) -> u32
+        ensures exact { result ≡ nodes_up_to 18 self.now + 19 }
         ensures least { length self.now + 19 ≤ result }
         ensures most { result ≤ 19 * length self.now + 19 }
     {

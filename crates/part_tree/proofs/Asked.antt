@@ -1,6 +1,6 @@
 -- Which pages a memory's part tree opens.
 use Rattle.std.proofs.Common.{◌≡◌, inl, inr, ℕ, zero, suc, ◌+◌, ◌*◌, ◌/◌, ◌^◌, ◌==◌, ◌||◌, Bool, true, false, List, [], ◌∷◌, refl, sym, ap, subst, ◌∙◌, arith, eq-eqb}
-use Rattle.std.specs.Prelude.{Contains, if◌then◌else◌}
+use Rattle.std.specs.Prelude.{Contains}
 use Rattle.std.proofs.lemmas.Bool.Decides.{eqb_tells}
 use Rattle.std.proofs.lemmas.List.Elements.{Contains-append_left, Contains-append_right, Contains-append_cases}
 use Rattle.std.proofs.lemmas.List.Folds.{list_any_at}
@@ -8,6 +8,7 @@ use Rattle.page_core.specs.Pages.{Pages}
 use Rattle.part_tree.specs.Tree.{node, IsBelow}
 use Rattle.part_tree.specs.Part.{Part, pruned, branch, leaf, opened, any_below, part_of}
 use Rattle.part_tree.proofs.Strings.{Contains-one}
+use Rattle.part_tree.proofs.Made.{chosen}
 use Rattle.part_tree.proofs.Below.{below_left, below_right, below_itself, one_side}
 
 or_rest : (a b : Bool) → a ≡ false → (a || b) ≡ true → b ≡ true
@@ -26,11 +27,6 @@ found h i (x ∷ xs) e =
 tested : (h i page : ℕ) (pages : List ℕ) → Contains pages page → IsBelow h i page → any_below h i pages ≡ true
 tested h i page pages c b =
     list_any_at (λ n. n / 2 ^ h == i) pages c.0 page c.1 (ap (λ (n : ℕ). n / 2 ^ h == i) c.2 ∙ eq-eqb (page / 2 ^ h) i b)
-
--- the tree that a test chooses
-chosen : (P : Part → Type 0) (b : Bool) (x y : Part) → (b ≡ true → P x) → (b ≡ false → P y) → P (if b then x else y)
-chosen P true x y p q = p refl
-chosen P false x y p q = q refl
 
 module _ (H : List ℕ → List ℕ) (m : Pages) (pages : List ℕ) where
   none_opened : (i number : ℕ) (digest : List ℕ) → Contains (opened i (pruned digest)) number → ⊥

@@ -1,15 +1,15 @@
 -- A memory's part tree has its canonical form.
-use Rattle.std.proofs.Common.{◌≡◌, inl, inr, ℕ, zero, suc, ◌+◌, ◌*◌, ◌/◌, ◌^◌, ◌<◌, ◌≤◌, Bool, true, false, cond, eqb, List, [], ◌∷◌, length, refl, sym, ap, ◌∙◌, arith}
-use Rattle.std.specs.Prelude.{All, if◌then◌else◌}
+use Rattle.std.proofs.Common.{◌≡◌, inl, inr, ℕ, zero, suc, ◌+◌, ◌*◌, ◌/◌, ◌^◌, ◌<◌, ◌≤◌, true, false, cond, eqb, List, [], ◌∷◌, length, refl, sym, ap, ◌∙◌, arith}
+use Rattle.std.specs.Prelude.{All}
 use Rattle.std.proofs.lemmas.Bool.Decides.{eqb_tells, leb_tells}
 use Rattle.std.proofs.lemmas.List.Elements.{All-head}
 use Rattle.digest_core.specs.Digests.{IsDigest}
 use Rattle.page_core.specs.Pages.{Pages, ArePages}
 use Rattle.part_tree.specs.Tree.{node, IsBelow}
-use Rattle.part_tree.specs.Part.{Part, pruned, branch, leaf, any_below, part_of}
+use Rattle.part_tree.specs.Part.{pruned, branch, leaf, any_below, part_of}
 use Rattle.part_tree.specs.Canonical.{page_count, BranchesOpen, IsBranch, IsCanonical}
 use Rattle.part_tree.proofs.Below.{above}
-use Rattle.part_tree.proofs.Made.{part_agrees, agree_tells}
+use Rattle.part_tree.proofs.Made.{chosen, part_agrees, agree_tells}
 
 -- how many of the pages are below a node
 abbrev count_below : ℕ → ℕ → List ℕ → ℕ
@@ -82,11 +82,6 @@ root_counts [] below some = absurd (omega (arith, some))
 root_counts (p ∷ ps) below some =
     let first : p < 262144 = All-head (λ page. page < 262144) p ps below in
     rw (counted 18 0 p ps (omega (arith, first))) (omega arith)
-
--- what holds of the choices of a test that passes, or doesn't
-chosen : (P : Part → Type 0) (b : Bool) (x y : Part) → (b ≡ true → P x) → (b ≡ false → P y) → P (if b then x else y)
-chosen P true x y p q = p refl
-chosen P false x y p q = q refl
 
 module _ (H : List ℕ → List ℕ) (m : Pages) (pages : List ℕ) where
   -- a node with one of the pages below it has one below a side

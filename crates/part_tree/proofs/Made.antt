@@ -1,5 +1,5 @@
 -- The part trees of a memory.
-use Rattle.std.proofs.Common.{inl, inr, ℕ, zero, suc, ◌+◌, ◌*◌, ◌<◌, Bool, true, false, List, [], ◌∷◌, ◌++◌, refl, sym, subst, arith}
+use Rattle.std.proofs.Common.{◌≡◌, inl, inr, ℕ, zero, suc, ◌+◌, ◌*◌, ◌<◌, Bool, true, false, List, [], ◌∷◌, ◌++◌, refl, sym, subst, arith}
 use Rattle.std.specs.Prelude.{Contains, if◌then◌else◌}
 use Rattle.std.proofs.lemmas.List.Elements.{All-append, Contains-append_cases}
 use Rattle.digest_core.specs.Digests.{IsBytes, IsDigest}
@@ -10,18 +10,18 @@ use Rattle.part_tree.specs.Laws.{PartAgrees, AgreeTells, StringsAreBytes}
 use Rattle.part_tree.proofs.Change.{root_of-agree}
 use Rattle.part_tree.proofs.Strings.{Contains-one}
 
--- what holds of both choices
-of_choice : (P : Part → Type 0) (b : Bool) (x y : Part) → P x → P y → P (if b then x else y)
-of_choice P true x y p q = p
-of_choice P false x y p q = q
+-- what holds of the choices of a test that passes, or doesn't
+pub chosen : (P : Part → Type 0) (b : Bool) (x y : Part) → (b ≡ true → P x) → (b ≡ false → P y) → P (if b then x else y)
+chosen P true x y p q = p refl
+chosen P false x y p q = q refl
 
 module _ (H : List ℕ → List ℕ) where
   pub part_agrees : PartAgrees H
   unfolding part_of
-  part_agrees m pages zero i = of_choice (Agree H m 0 i) (any_below 0 i pages) (leaf (m i)) (pruned (node H m 0 i)) refl refl
+  part_agrees m pages zero i = chosen (Agree H m 0 i) (any_below 0 i pages) (leaf (m i)) (pruned (node H m 0 i)) (λ e. refl) (λ e. refl)
   part_agrees m pages (suc h) i =
-      of_choice (Agree H m (suc h) i) (any_below (suc h) i pages) (branch (part_of H m pages h (2 * i)) (part_of H m pages h (2 * i + 1))) (pruned (node H m (suc h) i))
-      (part_agrees m pages h (2 * i), part_agrees m pages h (2 * i + 1)) refl
+      chosen (Agree H m (suc h) i) (any_below (suc h) i pages) (branch (part_of H m pages h (2 * i)) (part_of H m pages h (2 * i + 1))) (pruned (node H m (suc h) i))
+      (λ e. (part_agrees m pages h (2 * i), part_agrees m pages h (2 * i + 1))) (λ e. refl)
 
   module _ (is_digest : (x : List ℕ) → IsDigest (H x)) where
     shape_of-agree : (m : Pages) (h i : ℕ) (t : Part) → ArePages m → Agree H m h i t → IsPart h t

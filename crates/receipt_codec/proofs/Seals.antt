@@ -74,16 +74,6 @@ no_fields f bytes after p q r spelled refused g rest limits e =
 abbrev pub fields_of : Seal → Fields
 fields_of seal = record { pc = seal.pc; steps = seal.steps; count = length seal.words }
 
--- they keep their limits where the seal does
-pub fields_keep : (seal : Seal) → SealLimits seal → FieldLimits (fields_of seal)
-fields_keep seal limits = record {
-  aligned = limits.aligned;
-  is_word = limits.is_word;
-  some_steps = limits.some_steps;
-  few_steps = limits.few_steps;
-  few_words = limits.few_words;
-}
-
 -- a seal's bytes, part by part
 pub seal_parts : (seal : Seal) (rest : List ℕ)
     → seal_bytes seal ++ rest ≡ fields_bytes (fields_of seal) ++ (flat_map (to_le_bytes w32) seal.words ++ (tree_bytes seal.tree ++ rest))
@@ -93,14 +83,14 @@ seal_parts seal rest =
 -- no seal without its numbers
 pub no_seal_fields : (bytes ahead : List ℕ) → ahead ≡ bytes → NoneSpelled fields_bytes FieldLimits ahead → NoneSpelled seal_bytes SealLimits bytes
 no_seal_fields bytes ahead same none seal rest limits e =
-    none (fields_of seal) (flat_map (to_le_bytes w32) seal.words ++ (tree_bytes seal.tree ++ rest)) (fields_keep seal limits) (same ∙ e ∙ seal_parts seal rest)
+    none (fields_of seal) (flat_map (to_le_bytes w32) seal.words ++ (tree_bytes seal.tree ++ rest)) limits.numbers (same ∙ e ∙ seal_parts seal rest)
 
 -- the numbers that are there are the seal's
 pub same_fields : (f : Fields) (seal : Seal) (bytes after rest : List ℕ) → FieldLimits f → bytes ≡ fields_bytes f ++ after → SealLimits seal → bytes ≡ seal_bytes seal ++ rest
     → (f.count ≡ length seal.words) × (after ≡ flat_map (to_le_bytes w32) seal.words ++ (tree_bytes seal.tree ++ rest))
 same_fields f seal bytes after rest keep spelled limits e =
     let same = one_fields f (fields_of seal) after (flat_map (to_le_bytes w32) seal.words ++ (tree_bytes seal.tree ++ rest)) keep.is_word (omega (arith, keep.few_steps)) (omega (arith, keep.few_words))
-    (fields_keep seal limits) (sym spelled ∙ e ∙ seal_parts seal rest) in
+    limits.numbers (sym spelled ∙ e ∙ seal_parts seal rest) in
     (same.2, same.3)
 
 -- and none without a tree after its words
@@ -136,8 +126,8 @@ pub one_seal : OneSpelled seal_bytes SealLimits
 one_seal s r x y p q same =
     let after_s : List ℕ = flat_map (to_le_bytes w32) s.words ++ (tree_bytes s.tree ++ x) in
     let after_r : List ℕ = flat_map (to_le_bytes w32) r.words ++ (tree_bytes r.tree ++ y) in
-    let keep = fields_keep s p in
-    let fields = one_fields (fields_of s) (fields_of r) after_s after_r keep.is_word (omega (arith, keep.few_steps)) (omega (arith, keep.few_words)) (fields_keep r q)
+    let keep = p.numbers in
+    let fields = one_fields (fields_of s) (fields_of r) after_s after_r keep.is_word (omega (arith, keep.few_steps)) (omega (arith, keep.few_words)) q.numbers
     (sym (seal_parts s x) ∙ same ∙ seal_parts r y) in
     let words = one_words s.words r.words (tree_bytes s.tree ++ x) (tree_bytes r.tree ++ y) fields.2 p.are_words q.are_words fields.3 in
     let tree = one_canonical s.tree r.tree x y p.tree q.tree words.1 in

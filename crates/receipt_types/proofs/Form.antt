@@ -6,7 +6,7 @@ use Rattle.receipt_types.specs.Limits.{SealLimits, AllSealLimits, AllEntryLimits
 use Rattle.receipt_types.specs.Laws.{LimitsGiveForm}
 
 pub seal_form : (seal : Seal) → SealLimits seal → IsSeal seal
-seal_form seal l = record { aligned = l.aligned; is_word = l.is_word; some_steps = l.some_steps; shape = l.tree.shape }
+seal_form seal l = record { aligned = l.numbers.aligned; is_word = l.numbers.is_word; some_steps = l.numbers.some_steps; shape = l.tree.shape }
 
 seals_form : (seals : List Seal) → AllSealLimits seals → AreSeals seals
 seals_form [] l = tt

@@ -127,13 +127,13 @@ seal_rule seal l = record {
   words = flat_map (to_le_bytes w32) seal.words;
   tree = tree_bytes seal.tree;
   parts = five_pieces (to_le_bytes w32 seal.pc) (to_le_bytes w32 seal.steps) (to_le_bytes w32 (length seal.words)) (flat_map (to_le_bytes w32) seal.words) (tree_bytes seal.tree);
-  is_pc = word_rule seal.pc l.is_word;
-  aligned = l.aligned;
-  is_steps = word_rule seal.steps (below_word seal.steps l.few_steps);
-  some_steps = l.some_steps;
-  few_steps = l.few_steps;
-  is_count = word_rule (length seal.words) (below_word (length seal.words) l.few_words);
-  few_words = l.few_words;
+  is_pc = word_rule seal.pc l.numbers.is_word;
+  aligned = l.numbers.aligned;
+  is_steps = word_rule seal.steps (below_word seal.steps l.numbers.few_steps);
+  some_steps = l.numbers.some_steps;
+  few_steps = l.numbers.few_steps;
+  is_count = word_rule (length seal.words) (below_word (length seal.words) l.numbers.few_words);
+  few_words = l.numbers.few_words;
   are_words = words_rule seal.words l.are_words;
   is_tree = tree_rule seal.tree l.tree;
 }
@@ -144,11 +144,13 @@ seal_spelled seal bytes r =
     let (words, is_words) = words_spelled seal.words r.words r.are_words in
     let (tree, is_tree) = tree_spelled seal.tree r.tree r.is_tree in (
       record {
-        aligned = r.aligned;
-        is_word = r.is_pc.0;
-        some_steps = r.some_steps;
-        few_steps = r.few_steps;
-        few_words = r.few_words;
+        numbers = record {
+          aligned = r.aligned;
+          is_word = r.is_pc.0;
+          some_steps = r.some_steps;
+          few_steps = r.few_steps;
+          few_words = r.few_words;
+        };
         are_words = words;
         tree = tree;
       },

@@ -4,13 +4,17 @@ use Rattle.part_tree.specs.Canonical.{IsCanonical}
 use Rattle.receipt_types.specs.Seals.{Seal}
 use Rattle.receipt_types.specs.Bundles.{Entry, Bundle}
 
--- an aligned pc, 1 to 16,777,216 steps, at most 16,777,216 words, and a tree of canonical form
+-- the numbers of a seal: an aligned pc, 1 to 16,777,216 steps, and at most 16,777,216 words
+pub record NumberLimits (pc steps words : ℕ) : Type 0 where
+  pub aligned : pc % 4 ≡ 0
+  pub is_word : pc < 2 ^ 32
+  pub some_steps : 0 < steps
+  pub few_steps : steps ≤ 16777216
+  pub few_words : words ≤ 16777216
+
+-- these numbers, words below 2 ^ 32, and a tree of canonical form
 pub record SealLimits (seal : Seal) : Type 0 where
-  pub aligned : seal.pc % 4 ≡ 0
-  pub is_word : seal.pc < 2 ^ 32
-  pub some_steps : 0 < seal.steps
-  pub few_steps : seal.steps ≤ 16777216
-  pub few_words : length seal.words ≤ 16777216
+  pub numbers : NumberLimits seal.pc seal.steps (length seal.words)
   pub are_words : All (λ word. word < 2 ^ 32) seal.words
   pub tree : IsCanonical seal.tree
 

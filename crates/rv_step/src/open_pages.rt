@@ -92,8 +92,6 @@ impl Bus for OpenPages {
         let Some(page) = &mut self.pages[number] else {
             unreachable!();
         };
-        let mut bytes = *page.bytes();
-        bytes[at..at + 4].copy_from_slice(&value.to_le_bytes());
-        **page = Page::of(&bytes);
+        page.put(at, &value.to_le_bytes());
     }
 }

@@ -1,16 +1,19 @@
 -- A replay without a stop has an end.
-use Rattle.std.proofs.Common.{◌≡◌, ◌⊎◌, inl, inr, ℕ, zero, suc, ◌+◌, ◌-◌, ◌≤◌, Bool, true, false, cond, eqb, Option, Some, None, refl, ap, ◌∙◌, arith}
-use Rattle.std.specs.Prelude.{option_and_then}
+use Rattle.std.proofs.Common.{◌≡◌, ◌⊎◌, inl, inr, ℕ, zero, suc, ◌+◌, ◌-◌, ◌≤◌, Bool, true, false, cond, eqb, List, Option, Some, None, refl, ap, ap₂, ◌∙◌, arith}
+use Rattle.std.specs.Prelude.{option_and_then, option_map}
 use Rattle.std.specs.Option.{option_or}
 use Rattle.std.proofs.lemmas.Bool.Decides.{nat_tests}
 use Rattle.page_core.specs.Memory.{contains}
 use Rattle.rv_step.specs.Machine.{State, Event, Went, Halted, Faulted, step_of, foot_of, first_closed}
 use Rattle.rv_step.specs.Runs.{after}
 use Rattle.rv_step.proofs.Runs.{step_on}
+use Rattle.claim_types.specs.declared.claim.Exit.{Exit}
 use Rattle.claim_types.specs.declared.claim.Exit.TheVariants.{Split, Halted as HaltedWith}
 use Rattle.receipt_types.specs.Seals.{Seal}
 use Rattle.seal_replay.specs.Replay.{opened_by, enter, page_stop, event_stop, step_stop, first_below, stop_of, ending, halting, split}
+use Rattle.seal_replay.specs.declared.stop.ReplayStop.{ReplayStop}
 use Rattle.seal_replay.specs.declared.stop.ReplayStop.TheVariants as Stop
+use Rattle.seal_replay.specs.Claiming.{claim_at, unless, claim_of}
 use Rattle.seal_replay.specs.Laws.{UnstoppedEnds}
 use Rattle.seal_replay.proofs.Chains.{first_none, second_none, below_none, no_step_stop}
 
@@ -67,3 +70,7 @@ has_ending seal clean =
       | inr r ↦ or_some (option_and_then split (after (enter seal) seal.steps)) (option_and_then (λ s. halting s (step_of s)) (after (enter seal) (seal.steps - 1))) (HaltedWith r.code, r.state)
           (ap (option_and_then (λ s. halting s (step_of s))) r.reached ∙ ap (halting r.state) r.halts)
     ]
+
+-- a seal's claim, by its end
+pub claim_from : (H : List ℕ → List ℕ) (seal : Seal) (x : Exit × State) → stop_of seal ≡ None → ending seal ≡ Some x → claim_of H seal ≡ Some (claim_at H seal x)
+claim_from H seal x clean ends = ap₂ (λ (o : Option ReplayStop) (p : Option (Exit × State)). unless o (option_map (claim_at H seal) p)) clean ends

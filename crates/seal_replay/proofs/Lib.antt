@@ -6,3 +6,5 @@ pub mod Shown
 pub mod Entered
 pub mod Gone
 pub mod Ended
+pub mod Written
+pub mod Put

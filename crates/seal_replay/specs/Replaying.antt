@@ -1,10 +1,10 @@
 -- How far a replay has come, and how it ends.
-use Rattle.std.specs.Prelude.{◌≡◌, ℕ, ◌<◌, ◌||◌, Bool, false, List, [], length, slice_index_or, Some, None, IsTrue}
+use Rattle.std.specs.Prelude.{◌≡◌, ℕ, ◌<◌, ◌||◌, Bool, false, List, [], length, slice_index_or, Some, None, IsTrue, is_some}
 use Rattle.page_core.specs.Memory.{contains}
 use Rattle.page_core.specs.Memories.{flat}
 use Rattle.rv_step.specs.Machine.{State, Went, Halted, step_of}
 use Rattle.rv_step.specs.Runs.{after, touched}
-use Rattle.rv_step.specs.Opened.{pages_in}
+use Rattle.rv_step.specs.Opened.{page_in, pages_in}
 use Rattle.rv_step.specs.declared.stepping.Event.{Event as StepEvent}
 use Rattle.rv_step.specs.declared.stepping.Event.TheVariants as E
 use Rattle.claim_types.specs.declared.claim.Exit.{Exit}
@@ -42,7 +42,8 @@ abbrev pub state_of : Replayed → State
 state_of r =
     record { pc = r.core.pc; x = r.core.regs; memory = flat (pages_in r.pages); words = []; journal = r.log.journal; calls = r.log.calls }
 
--- nothing stops the replay, and it ends so
+-- nothing stops the replay, and it ends so, with the tree's pages still open
 pub record EndsSo (seal : Seal) (r : Replayed) : Type 0 where
+  pub opens : (n : ℕ) → is_some (page_in r.pages n) ≡ contains (opened_by seal) n
   pub clean : stop_of seal ≡ None
   pub ends : ending seal ≡ Some (r.exit, state_of r)

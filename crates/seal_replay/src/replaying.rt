@@ -18,16 +18,16 @@ use rv_isa::Fault;
 use rv_step::{Bus, Core, Event, OpenPages, RunLog, StepStop, WordTape, look, step};
 use std::alloc::{AllocError, Global};
 
-/// Where a replay ended that nothing stopped.
+// Where a replay ended that nothing stopped.
 #[derive(Drop)]
-pub struct Replayed {
-    /// Whether its last step went or halted.
+pub(crate) struct Replayed {
+    // Whether its last step went or halted.
     pub exit: Exit,
-    /// The pc and the registers; a halt changes none.
+    // The pc and the registers; a halt changes none.
     pub core: Core,
-    /// The open pages.
+    // The open pages.
     pub pages: OpenPages,
-    /// What it said.
+    // What it said.
     pub log: RunLog,
 }
 
@@ -97,6 +97,7 @@ fn run<B: Bus>(
     requires enters { enter seal.now ≡ state_at core.old (B.byte_at bus.old) tape.old log.old }
     requires size { (p : ℕ) → IsTrue (contains (opened_by seal.now) p) → p < length marks.old }
     requires unmarked { AreMarked (opened_by seal.now) marks.old [] }
+    ensures same_pages { B.opens bus.new ≡ B.opens bus.old }
     ensures ended { IfOk result (λ exit. HasEnded seal.now exit (state_at core.new (B.byte_at bus.new) tape.new log.new) marks.new) }
     ensures stop { IfErr result (λ stop. (stop ≡ Memory) ⊎ (first_below (step_stop seal.now) seal.now.steps ≡ Some stop)) }
 {
@@ -118,10 +119,8 @@ fn tape_of(alloc: Global, words: &WordList) -> Result<WordTape, AllocError>
     Ok(WordTape::new(copy))
 }
 
-/// Replays a seal, whose pc is a multiple of 4 and whose tree has its shape, over the pages that its
-/// tree opens: the registers are those of the register page. Ok and each stop but Memory come exactly
-/// where the definition of the stops says so.
-pub fn replay(alloc: Global, seal: &Seal) -> Result<Replayed, ReplayStop>
+// Does a seal's steps over the pages that its tree opens, from the registers of the register page.
+pub(crate) fn replay_to_end(alloc: Global, seal: &Seal) -> Result<Replayed, ReplayStop>
     requires aligned { seal.now.pc % 4 ≡ 0 }
     requires shape { IsPart 18 seal.now.tree }
     ensures ended { IfOk result (λ replayed. EndsSo seal.now replayed) }

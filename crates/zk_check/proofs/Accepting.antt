@@ -1,23 +1,25 @@
 -- A receipt that is accepted is answered as valid, and an ELF file that fails no test with its id.
-use Rattle.std.proofs.Common.{◌≡◌, ◌≤◌, ◌⊎◌, inl, inr, ℕ, ◌/◌, ◌%◌, Bool, List, [], ◌++◌, length, get_or, Option, Some, None, subst, sym, ap, ◌∙◌, arith}
+use Rattle.std.proofs.Common.{◌≡◌, ◌≢◌, ◌≤◌, ◌⊎◌, inl, inr, ℕ, ◌/◌, ◌%◌, Bool, List, [], ◌++◌, length, get_or, Option, Some, None, subst, refl, sym, ap, ◌∙◌, arith}
 use Rattle.std.proofs.lemmas.Bool.{le-leb}
 use Rattle.std.specs.Prelude.{MatchBool}
 use Rattle.outside.specs.Files.{Files}
-use Rattle.receipt_types.specs.Seals.{Seal}
 use Rattle.receipt_types.specs.Bundles.{Bundle}
 use Rattle.receipt_types.specs.Limits.{KeepsLimits}
 use Rattle.receipt_types.specs.Spelling.{Spells, bundle_bytes}
 use Rattle.receipt_types.specs.Laws.{LimitsGiveForm}
 use Rattle.receipt_codec.specs.Reading.{OneSpelled, BeginsVersion}
 use Rattle.check_core.specs.Judgement.{Accepts, first_stop}
+use Rattle.check_core.specs.declared.stop.CheckStop.{CheckStop}
+use Rattle.check_core.specs.declared.stop.CheckStop.TheVariants as Stop
+use Rattle.check_core.specs.declared.stop.CheckStop.TheVariants.{Memory as NoRoom}
+use Rattle.check_core.specs.Checking.{Refuses}
 use Rattle.check_core.specs.Laws.{AcceptedUnstopped}
 use Rattle.elf_image.specs.Tests.{elf_fault}
 use Rattle.zk_check.specs.declared.status.Status.{Status}
 use Rattle.zk_check.specs.declared.status.Status.TheVariants.{Done, TooLong, ReadFault, Memory}
 use Rattle.zk_check.specs.Words.{Job, check, identify, file_of, limit_of, job_of}
 use Rattle.zk_check.specs.Lines.{too_long_lines}
-use Rattle.zk_check.specs.OneSeal.{one_seal, SpellsOne}
-use Rattle.zk_check.specs.Answers.{IsStopped, Judged, Identified, AnswersBytes, AnswersFile, AnswersJob, Answers}
+use Rattle.zk_check.specs.Answers.{Judged, Identified, AnswersBytes, AnswersFile, AnswersJob, Answers}
 use Rattle.zk_check.specs.Ends.{NamesAccepted, NamesLoaded, IsDoneOrFails}
 
 none_not_some : {A : Type 0} {B : Type 0} (x : A) → None ≡ Some x → B
@@ -53,27 +55,36 @@ other_version bytes B version begins spelled =
     begins.other (omega (arith, low, high, begins.fits))
 
 module _ (H : List ℕ → List ℕ) (one : OneSpelled bundle_bytes KeepsLimits) (law : AcceptedUnstopped H) (form : LimitsGiveForm) where
-  -- nothing stops it
-  not_stopped : (id bytes lines : List ℕ) (seal : Seal) → SpellsOne seal bytes → Accepts H (one_seal seal) id → IsStopped H id bytes lines → ⊥
-  not_stopped id bytes lines seal spelled accepted stopped =
-      none_not_some stopped.stop (
-      sym ((law (one_seal seal) id (form (one_seal seal) spelled.limits)).1 accepted)
-      ∙ ap (λ (B : Bundle). first_stop H B id) (same_bundle one bytes (one_seal seal) (one_seal stopped.seal) spelled stopped.spelled)
-      ∙ stopped.is_first
-      )
+  module _ (id bytes : List ℕ) (B : Bundle) (spelled : Spells B bytes) (single : length B ≡ 1) (accepted : Accepts H B id) where
+    -- nothing stops it
+    not_stopped : (C : Bundle) (stop : CheckStop) → Spells C bytes → first_stop H C id ≡ Some stop → ⊥
+    not_stopped C stop spells is_first =
+        none_not_some stop
+        (sym ((law B id (form B spelled.limits)).1 accepted) ∙ ap (λ (X : Bundle). first_stop H X id) (same_bundle one bytes B C spelled spells) ∙ is_first)
 
-  judged_done : (id bytes lines : List ℕ) (status : Status) (seal : Seal) → SpellsOne seal bytes → Accepts H (one_seal seal) id → Judged H id bytes status lines → status ≡ Done
-  judged_done id bytes lines status seal spelled accepted (inl valid) = valid.0
-  judged_done id bytes lines status seal spelled accepted (inr (refused, inl malformed)) = absurd (malformed.none (one_seal seal) spelled)
-  judged_done id bytes lines status seal spelled accepted (inr (refused, inr (inl other))) = absurd (other_version bytes (one_seal seal) other.version other.begins spelled)
-  judged_done id bytes lines status seal spelled accepted (inr (refused, inr (inr (inl unbuilt)))) =
-      absurd (unbuilt.other seal (same_bundle one bytes unbuilt.bundle (one_seal seal) unbuilt.spelled spelled))
-  judged_done id bytes lines status seal spelled accepted (inr (refused, inr (inr (inr stopped)))) = absurd (not_stopped id bytes lines seal spelled accepted stopped)
+    not_refused : (stop : CheckStop) → Refuses H id bytes stop → stop ≢ NoRoom → ⊥
+    not_refused Stop.Malformed refuses said = refuses.none B spelled
+    not_refused (Stop.Version version) refuses said = other_version bytes B version refuses spelled
+    not_refused Stop.NotBuilt refuses said =
+        let same : length refuses.bundle ≡ 1 = ap length (same_bundle one bytes refuses.bundle B refuses.spelled spelled) ∙ single in
+        omega (arith, same, refuses.stops)
+    not_refused (Stop.WrongImage found) refuses said = not_stopped refuses.bundle (Stop.WrongImage found) refuses.spelled refuses.stops.1
+    not_refused (Stop.Broken e k stop) refuses said = not_stopped refuses.bundle (Stop.Broken e k stop) refuses.spelled refuses.stops.1
+    not_refused (Stop.Unjoined e k after before) refuses said = not_stopped refuses.bundle (Stop.Unjoined e k after before) refuses.spelled refuses.stops.1
+    not_refused (Stop.EndInside e k) refuses said = not_stopped refuses.bundle (Stop.EndInside e k) refuses.spelled refuses.stops.1
+    not_refused (Stop.NoEnd e) refuses said = not_stopped refuses.bundle (Stop.NoEnd e) refuses.spelled refuses.stops.1
+    not_refused (Stop.LinkCount e calls links) refuses said = not_stopped refuses.bundle (Stop.LinkCount e calls links) refuses.spelled refuses.stops.1
+    not_refused (Stop.BadLink e call wanted found) refuses said = not_stopped refuses.bundle (Stop.BadLink e call wanted found) refuses.spelled refuses.stops.1
+    not_refused Stop.Memory refuses said = said refl
+
+    judged_done : (lines : List ℕ) (status : Status) → Judged H id bytes status lines → status ≡ Done
+    judged_done lines status (inl valid) = valid.0
+    judged_done lines status (inr (is, refused)) = absurd (not_refused refused.stop refused.refuses refused.not_memory)
 
   -- the status of the answer
   pub answers_done : (words : List (List ℕ)) (told : Option Files) (status : Status) (lines : List ℕ) → Answers H words told status lines → NamesAccepted H words told → status ≡ Done
   answers_done words told status lines answers named =
-      judged_done named.id named.bytes lines status named.seal named.spelled named.accepted
+      judged_done named.id named.bytes named.bundle named.spelled named.one named.accepted lines status
       (answers_of H words told status lines answers (check named.receipt named.id) named.is_job named.files named.is_told named.bytes named.held named.within)
 
   pub accepted_ends : (words : List (List ℕ)) (told : Option Files) (status : Status) (lines : List ℕ) → Answers H words told status lines → NamesAccepted H words told

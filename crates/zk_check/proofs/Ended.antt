@@ -7,7 +7,6 @@ use Rattle.check_core.specs.Laws.{Headline}
 use Rattle.zk_check.specs.declared.status.Status.{Status}
 use Rattle.zk_check.specs.declared.status.Status.TheVariants.{Done, Refused, Words, ReadFault, WriteFault, Memory, NoFile, TooLong, BadFile, Collision}
 use Rattle.zk_check.specs.Words.{Job, check, identify, limit_of, job_of}
-use Rattle.zk_check.specs.OneSeal.{one_seal}
 use Rattle.zk_check.specs.Answers.{IsValid, IsHeadlined, IsIdentified, Judged, Identified, AnswersFile, AnswersJob, Answers}
 use Rattle.zk_check.specs.Ends.{OnBytes, OnReceipt, OnElf, IsValidPut, IsIdentifiedPut, Ends, IsPrinted}
 use Rattle.std.specs.Io.KnownBytes.{append_known}
@@ -16,12 +15,12 @@ module _ (H : List ℕ → List ℕ) where
   -- what is valid carries the headline
   valid_headlined : Headline H → LimitsGiveForm → (id bytes lines : List ℕ) → IsValid H id bytes lines → IsHeadlined H id bytes
   valid_headlined law form id bytes lines valid =
-      let B = one_seal valid.seal in
+      let r = valid.reported in
       record {
-        bundle = B;
-        spells = valid.spelled;
-        accepted = valid.accepted;
-        vouches = λ e first image is_image is_first same. law B id e first image (form B valid.spelled.limits) is_image valid.accepted is_first same;
+        bundle = r.bundle;
+        spells = r.spelled;
+        accepted = r.accepted;
+        vouches = λ e first image is_image is_first same. law r.bundle id e first image (form r.bundle r.spelled.limits) is_image r.accepted is_first same;
       }
 
   refused_not_done : {A : Type 0} → Done ≡ Refused → A

@@ -1,5 +1,3 @@
-pub mod Plain
-pub mod Judged
 pub mod Answered
 pub mod Ended
 pub mod Text

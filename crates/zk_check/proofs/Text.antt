@@ -1,41 +1,35 @@
--- The lines of the answer valid.
-use Rattle.std.proofs.Common.{◌≡◌, ℕ, ◌+◌, List, [], ◌∷◌, ◌++◌, ap, ap₂, ◌∙◌, append_assoc, append-nil, length, zero-add, sym}
-use Rattle.std.specs.Prelude.{codes, decimal}
-use Rattle.hex.specs.Hex.{encode_lower}
-use Rattle.claim_types.specs.declared.state.State.{State as SystemState}
-use Rattle.claim_types.specs.Claims.{SpanClaim, claim_digest, conditional_digest}
-use Rattle.zk_check.specs.Lines.{valid_lines, journal_tail}
-use Rattle.zk_check.specs.Reported.{plain_claim, plain_report, plain_text}
+-- The lines of the answer valid as they are written, and as they are defined.
+use Rattle.std.proofs.Common.{◌≡◌, ℕ, List, [], ◌∷◌, ◌++◌, append_assoc}
+use Rattle.std.specs.Prelude.{codes}
+use Rattle.zk_check.specs.Lines.{line}
 
--- lines, each ended by nl, as one text
-one_text : (nl v e j c d n s t code count tail claim conditional one steps : List ℕ)
-    → ((v ++ nl ++ e) ++ code ++ (nl ++ j) ++ (count ++ tail) ++ (nl ++ c) ++ claim ++ (nl ++ d) ++ conditional ++ nl) ++ (n ++ one ++ (nl ++ s) ++ one ++ (nl ++ t) ++ steps ++ nl)
-    ≡ (v ++ nl)
-    ++ (((e ++ code) ++ nl) ++ ((j ++ count ++ tail) ++ nl) ++ ((c ++ claim) ++ nl) ++ ((d ++ conditional) ++ nl) ++ ((n ++ one) ++ nl) ++ ((s ++ one) ++ nl) ++ ((t ++ steps) ++ nl))
-one_text nl v e j c d n s t code count tail claim conditional one steps = simp (append_assoc, append-nil)
+-- the lines that say what was proved, from what they tell
+abbrev pub four : List ℕ → List ℕ → List ℕ → List ℕ → List ℕ
+four code told claim conditional = line (codes "exit " ++ code) ++ line (codes "journal " ++ told) ++ line (codes "claim " ++ claim) ++ line (codes "conditional " ++ conditional)
 
--- the lines of a plain report are its text
-pub lines_are_text : (H : List ℕ → List ℕ) (before : SystemState) (steps code : ℕ) (journal : List ℕ)
-    → plain_text (decimal code) (decimal (length journal) ++ journal_tail journal) (encode_lower (claim_digest H (plain_claim before code journal)))
-    (encode_lower (conditional_digest H (plain_claim before code journal))) (decimal 1) (decimal steps)
-    ≡ valid_lines (plain_report H before steps code journal)
-lines_are_text H before steps code journal =
-    let claim = encode_lower (claim_digest H (plain_claim before code journal)) in
-    let conditional = encode_lower (conditional_digest H (plain_claim before code journal)) in
-    let told = decimal (length journal) ++ journal_tail journal in
-    let text : plain_text (decimal code) told claim conditional (decimal 1) (decimal (0 + steps)) ≡ valid_lines (plain_report H before steps code journal) =
-    one_text (10 ∷ []) (codes "valid") (codes "exit ") (codes "journal ") (codes "claim ") (codes "conditional ") (codes "entries ") (codes "seals ") (codes "steps ")
-    (decimal code) (decimal (length journal)) (journal_tail journal) claim conditional (decimal 1) (decimal (0 + steps)) in
-    ap (λ (n : ℕ). plain_text (decimal code) told claim conditional (decimal 1) (decimal n)) (sym (zero-add steps)) ∙ text
+-- and as they are written
+abbrev pub four_text : List ℕ → List ℕ → List ℕ → List ℕ → List ℕ
+four_text code told claim conditional =
+    codes "exit " ++ code ++ codes "\njournal " ++ told ++ codes "\nclaim " ++ claim ++ codes "\nconditional " ++ conditional ++ codes "\n"
 
--- a text made from the digits of a plain claim is the lines of its report
-pub report_is_printed : (H : List ℕ → List ℕ) (before : SystemState) (steps code : ℕ) (journal : List ℕ) (claim : SpanClaim) → claim ≡ plain_claim before code journal
-    → (told resolved conditional text : List ℕ) → told ≡ decimal (length journal) ++ journal_tail journal
-    → resolved ≡ encode_lower (claim_digest H claim) → conditional ≡ encode_lower (conditional_digest H claim)
-    → text ≡ plain_text (decimal code) told resolved conditional (decimal 1) (decimal steps) → text ≡ valid_lines (plain_report H before steps code journal)
-report_is_printed H before steps code journal claim is told resolved conditional text j r d e =
-    e
-    ∙ ap (λ (said : List ℕ). plain_text (decimal code) said resolved conditional (decimal 1) (decimal steps)) j
-    ∙ ap₂ (λ (resolved conditional : List ℕ). plain_text (decimal code) (decimal (length journal) ++ journal_tail journal) resolved conditional (decimal 1) (decimal steps)) r d
-    ∙ ap (λ (claim : SpanClaim). plain_text (decimal code) (decimal (length journal) ++ journal_tail journal) (encode_lower (claim_digest H claim)) (encode_lower (conditional_digest H claim)) (decimal 1) (decimal steps)) is
-    ∙ lines_are_text H before steps code journal
+lines_of : (nl e j c d code told claim conditional : List ℕ)
+    → e ++ code ++ (nl ++ j) ++ told ++ (nl ++ c) ++ claim ++ (nl ++ d) ++ conditional ++ nl
+    ≡ ((e ++ code) ++ nl) ++ ((j ++ told) ++ nl) ++ ((c ++ claim) ++ nl) ++ ((d ++ conditional) ++ nl)
+lines_of nl e j c d code told claim conditional = simp append_assoc
+
+pub four_lines : (code told claim conditional : List ℕ) → four_text code told claim conditional ≡ four code told claim conditional
+four_lines code told claim conditional = lines_of (10 ∷ []) (codes "exit ") (codes "journal ") (codes "claim ") (codes "conditional ") code told claim conditional
+
+-- ---- and those that say how much it was
+abbrev pub three : List ℕ → List ℕ → List ℕ → List ℕ
+three count seals steps = line (codes "entries " ++ count) ++ line (codes "seals " ++ seals) ++ line (codes "steps " ++ steps)
+
+abbrev pub three_text : List ℕ → List ℕ → List ℕ → List ℕ
+three_text count seals steps = codes "entries " ++ count ++ codes "\nseals " ++ seals ++ codes "\nsteps " ++ steps ++ codes "\n"
+
+parts_of : (nl n s t count seals steps : List ℕ)
+    → n ++ count ++ (nl ++ s) ++ seals ++ (nl ++ t) ++ steps ++ nl ≡ ((n ++ count) ++ nl) ++ ((s ++ seals) ++ nl) ++ ((t ++ steps) ++ nl)
+parts_of nl n s t count seals steps = simp append_assoc
+
+pub three_lines : (count seals steps : List ℕ) → three_text count seals steps ≡ three count seals steps
+three_lines count seals steps = parts_of (10 ∷ []) (codes "entries ") (codes "seals ") (codes "steps ") count seals steps

@@ -1,16 +1,17 @@
 -- What the program answers, by the words and what is told of the files. H is the digest function.
-use Rattle.std.specs.Prelude.{◌≡◌, ◌⊎◌, ℕ, List, length, nat_le, MatchBool, Option, Some, None, ⊤}
+use Rattle.std.specs.Prelude.{◌≡◌, ◌≢◌, ◌⊎◌, ℕ, List, length, nat_le, MatchBool, Option, Some, None, ⊤}
 use Rattle.outside.specs.Files.{Files}
 use Rattle.page_core.specs.Images.{Image, IsImage}
 use Rattle.claim_types.specs.declared.state.State.{State as SystemState}
 use Rattle.claim_types.specs.States.{state_digest, image_id}
-use Rattle.receipt_types.specs.Seals.{Seal}
 use Rattle.receipt_types.specs.Bundles.{Bundle}
 use Rattle.receipt_types.specs.Spelling.{Spells}
-use Rattle.receipt_codec.specs.Reading.{BeginsVersion}
 use Rattle.check_core.specs.Entries.{first_at}
-use Rattle.check_core.specs.Judgement.{Accepts, CheckStop, first_stop}
-use Rattle.check_core.specs.Reports.{Report, report_of}
+use Rattle.check_core.specs.declared.stop.CheckStop.{CheckStop}
+use Rattle.check_core.specs.declared.stop.CheckStop.TheVariants.{Memory}
+use Rattle.check_core.specs.Judgement.{Accepts}
+use Rattle.check_core.specs.Reports.{Report}
+use Rattle.check_core.specs.Checking.{IsReported, Refuses}
 use Rattle.check_core.specs.Hashed.{hashed}
 use Rattle.check_core.specs.Vouching.{Vouches}
 use Rattle.digest_core.specs.Collisions.{Collides}
@@ -20,19 +21,15 @@ use Rattle.elf_image.specs.Loaded.{Loads}
 use Rattle.zk_check.specs.declared.status.Status.{Status}
 use Rattle.zk_check.specs.declared.status.Status.TheVariants.{Done, Refused, Words, NoFile, TooLong, BadFile}
 use Rattle.zk_check.specs.Words.{Job, check, identify, file_of, limit_of, job_of}
-use Rattle.zk_check.specs.Lines.{usage_lines, no_file_lines, too_long_lines, valid_lines, id_lines, malformed_lines, version_lines, form_lines}
+use Rattle.zk_check.specs.Lines.{usage_lines, no_file_lines, too_long_lines, valid_lines, id_lines}
 use Rattle.zk_check.specs.BadElf.{bad_elf_lines}
 use Rattle.zk_check.specs.Refusals.{stop_lines}
-use Rattle.zk_check.specs.OneSeal.{one_seal, SpellsOne}
 
--- ---- valid
--- the bytes spell a bundle of one seal that is accepted under the id, and the lines are those of its report
+-- ---- a receipt
+-- the bytes spell a bundle of one entry that is accepted under the id, and the lines are those of its report
 pub record IsValid (H : List ℕ → List ℕ) (id bytes lines : List ℕ) : Type 0 where
-  pub seal : Seal
-  pub spelled : SpellsOne seal bytes
-  pub accepted : Accepts H (one_seal seal) id
   pub report : Report
-  pub is_report : report_of H (one_seal seal) ≡ Some report
+  pub reported : IsReported H id bytes report
   pub lines_are : lines ≡ valid_lines report
 
 -- the bytes spell a bundle that is accepted under the id and whose entries vouch for each image of their first states, or hashed strings collide
@@ -43,37 +40,12 @@ pub record IsHeadlined (H : List ℕ → List ℕ) (id bytes : List ℕ) : Type 
   pub vouches : (e : ℕ) (first : SystemState) (image : Image) → IsImage image → first_at H bundle e ≡ Some first → state_digest H first ≡ image_id H image
       → Vouches H bundle e image ⊎ Collides H (hashed H bundle image)
 
--- ---- refused
--- the bytes spell no bundle, and don't begin with another version
-pub record IsMalformed (bytes lines : List ℕ) : Type 0 where
-  pub none : (B : Bundle) → Spells B bytes → ⊥
-  pub no_version : (version : ℕ) → BeginsVersion version bytes → ⊥
-  pub lines_are : lines ≡ malformed_lines
-
--- they begin with another version
-pub record IsOtherVersion (bytes lines : List ℕ) : Type 0 where
-  pub version : ℕ
-  pub begins : BeginsVersion version bytes
-  pub lines_are : lines ≡ version_lines version
-
--- they spell a bundle, and not of one entry, no links and one seal
-pub record IsNotBuilt (bytes lines : List ℕ) : Type 0 where
-  pub bundle : Bundle
-  pub spelled : Spells bundle bytes
-  pub other : (seal : Seal) → bundle ≡ one_seal seal → ⊥
-  pub lines_are : lines ≡ form_lines
-
--- they spell one of that form, and this is the first that stops it, with its line
-pub record IsStopped (H : List ℕ → List ℕ) (id bytes lines : List ℕ) : Type 0 where
-  pub seal : Seal
-  pub spelled : SpellsOne seal bytes
+-- the check refuses the bytes with this stop, and the line says so
+pub record IsRefused (H : List ℕ → List ℕ) (id bytes lines : List ℕ) : Type 0 where
   pub stop : CheckStop
-  pub is_first : first_stop H (one_seal seal) id ≡ Some stop
+  pub refuses : Refuses H id bytes stop
+  pub not_memory : stop ≢ Memory
   pub lines_are : lines ≡ stop_lines stop
-
--- the causes exclude one another
-abbrev pub Refuses : (List ℕ → List ℕ) → List ℕ → List ℕ → List ℕ → Type 0
-Refuses H id bytes lines = IsMalformed bytes lines ⊎ (IsOtherVersion bytes lines ⊎ (IsNotBuilt bytes lines ⊎ IsStopped H id bytes lines))
 
 -- ---- the id of a guest
 -- the bytes are an ELF file that loads an image, and the line has the image's id
@@ -91,7 +63,7 @@ pub record IsBadElf (bytes lines : List ℕ) : Type 0 where
 -- ---- the table of answers, a row a cause, in their order
 -- the receipt's bytes were read
 abbrev pub Judged : (List ℕ → List ℕ) → List ℕ → List ℕ → Status → List ℕ → Type 0
-Judged H id bytes status lines = ((status ≡ Done) × IsValid H id bytes lines) ⊎ ((status ≡ Refused) × Refuses H id bytes lines)
+Judged H id bytes status lines = ((status ≡ Done) × IsValid H id bytes lines) ⊎ ((status ≡ Refused) × IsRefused H id bytes lines)
 
 -- the ELF file's bytes were read
 abbrev pub Identified : (List ℕ → List ℕ) → List ℕ → Status → List ℕ → Type 0

@@ -2,13 +2,13 @@
 use Rattle.std.specs.Prelude.{◌≡◌, ◌≤◌, ℕ, List, length, take, Option, None, Some, ⊤}
 use Rattle.std.specs.Io.KnownBytes.{append_known}
 use Rattle.outside.specs.Files.{Files}
-use Rattle.receipt_types.specs.Seals.{Seal}
+use Rattle.receipt_types.specs.Bundles.{Bundle}
+use Rattle.receipt_types.specs.Spelling.{Spells}
 use Rattle.check_core.specs.Judgement.{Accepts}
 use Rattle.zk_check.specs.declared.status.Status.{Status}
 use Rattle.zk_check.specs.declared.status.Status.TheVariants.{Done, ReadFault, WriteFault, Memory}
 use Rattle.elf_image.specs.Tests.{elf_fault}
 use Rattle.zk_check.specs.Words.{Job, check, identify, limit_of, job_of}
-use Rattle.zk_check.specs.OneSeal.{one_seal, SpellsOne}
 use Rattle.zk_check.specs.Answers.{Answers, IsValid, IsIdentified}
 
 -- an answer's lines were made
@@ -62,7 +62,7 @@ pub record IsIdentifiedPut (H : List ℕ → List ℕ) (bytes : List ℕ) (taken
   pub identified : IsIdentified H bytes lines
   pub put : taken' ≡ append_known taken lines
 
--- the words name a file whose bytes, as told, are a receipt of one seal that is accepted under the named id
+-- the words name a file whose bytes, as told, are a receipt of one entry that is accepted under the named id
 pub record NamesAccepted (H : List ℕ → List ℕ) (words : List (List ℕ)) (told : Option Files) : Type 0 where
   pub receipt : List ℕ
   pub id : List ℕ
@@ -72,9 +72,10 @@ pub record NamesAccepted (H : List ℕ → List ℕ) (words : List (List ℕ)) (
   pub bytes : List ℕ
   pub held : files receipt ≡ Some bytes
   pub within : length bytes ≤ limit_of (check receipt id)
-  pub seal : Seal
-  pub spelled : SpellsOne seal bytes
-  pub accepted : Accepts H (one_seal seal) id
+  pub bundle : Bundle
+  pub spelled : Spells bundle bytes
+  pub one : length bundle ≡ 1
+  pub accepted : Accepts H bundle id
 
 -- the words name an ELF file whose bytes, as told, fail no test
 pub record NamesLoaded (words : List (List ℕ)) (told : Option Files) : Type 0 where

@@ -3,8 +3,6 @@ pub mod Words
 pub mod Lines
 pub mod BadElf
 pub mod Refusals
-pub mod OneSeal
 pub mod Answers
 pub mod Ends
-pub mod Reported
 pub mod Views

@@ -20,17 +20,24 @@ abbrev pub journal_tail : List ℕ → List ℕ
 journal_tail [] = []
 journal_tail (byte ∷ bytes) = codes " " ++ encode_lower (byte ∷ bytes)
 
--- exit code, journal and digests of entry 0, and the numbers of entries, of all seals and of all steps
-abbrev pub report_lines : List ℕ → List EntryReport → List ℕ
-report_lines journal [] = []
-report_lines journal (first ∷ rest) =
+-- what was proved: exit code, journal and digests of the first entry
+abbrev pub claims_lines : List ℕ → EntryReport → List ℕ
+claims_lines journal first =
     line (codes "exit " ++ decimal first.exit)
     ++ line (codes "journal " ++ decimal (length journal) ++ journal_tail journal)
     ++ line (codes "claim " ++ encode_lower first.claim)
     ++ line (codes "conditional " ++ encode_lower first.conditional)
-    ++ line (codes "entries " ++ decimal (length (first ∷ rest)))
-    ++ line (codes "seals " ++ decimal (sum_by (λ entry. entry.seals) (first ∷ rest)))
-    ++ line (codes "steps " ++ decimal (sum_by (λ entry. entry.steps) (first ∷ rest)))
+
+-- how much it was: the numbers of entries, of all seals and of all steps
+abbrev pub counts_lines : List EntryReport → List ℕ
+counts_lines entries =
+    line (codes "entries " ++ decimal (length entries))
+    ++ line (codes "seals " ++ decimal (sum_by (λ entry. entry.seals) entries))
+    ++ line (codes "steps " ++ decimal (sum_by (λ entry. entry.steps) entries))
+
+abbrev pub report_lines : List ℕ → List EntryReport → List ℕ
+report_lines journal [] = []
+report_lines journal (first ∷ rest) = claims_lines journal first ++ counts_lines (first ∷ rest)
 
 abbrev pub valid_lines : Report → List ℕ
 valid_lines report = line (codes "valid") ++ report_lines report.journal report.entries

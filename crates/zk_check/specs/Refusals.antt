@@ -7,8 +7,9 @@ use Rattle.rv_isa.specs.declared.fault.Fault.TheVariants.{Illegal, BadAddress, M
 use Rattle.seal_replay.specs.declared.stop.ReplayStop.{ReplayStop}
 use Rattle.seal_replay.specs.declared.stop.ReplayStop.TheVariants.{Unopened, Fault as Faults, WordsShort, EndsEarly, WordsLeft, Idle, Memory}
 use Rattle.claim_types.specs.declared.state.State.{State as SystemState}
-use Rattle.check_core.specs.Judgement.{CheckStop, WrongImage, Broken, Unjoined, EndInside, NoEnd, LinkCount, BadLink}
-use Rattle.zk_check.specs.Lines.{line, image_lines}
+use Rattle.check_core.specs.declared.stop.CheckStop.{CheckStop}
+use Rattle.check_core.specs.declared.stop.CheckStop.TheVariants.{Malformed, Version, NotBuilt, WrongImage, Broken, Unjoined, EndInside, NoEnd, LinkCount, BadLink, Memory as NoRoom}
+use Rattle.zk_check.specs.Lines.{line, malformed_lines, version_lines, form_lines, image_lines}
 
 -- a word as eight digits
 abbrev pub hex_word : ℕ → List ℕ
@@ -39,8 +40,11 @@ replay_text Memory = []
 abbrev pub state_text : SystemState → List ℕ
 state_text state = hex_word state.pc ++ codes ":" ++ encode_lower state.root
 
--- why a bundle isn't accepted
+-- why a receipt isn't accepted; want of memory is no refusal and has no text
 abbrev pub stop_lines : CheckStop → List ℕ
+stop_lines Malformed = malformed_lines
+stop_lines (Version version) = version_lines version
+stop_lines NotBuilt = form_lines
 stop_lines (WrongImage found) = image_lines found
 stop_lines (Broken entry seal stop) = line (codes "refused seal " ++ decimal entry ++ codes " " ++ decimal seal ++ codes " " ++ replay_text stop)
 stop_lines (Unjoined entry seal after before) = line (codes "refused unjoined " ++ decimal entry ++ codes " " ++ decimal seal ++ codes " " ++ state_text after ++ codes " " ++ state_text before)
@@ -48,3 +52,4 @@ stop_lines (EndInside entry seal) = line (codes "refused end-inside " ++ decimal
 stop_lines (NoEnd entry) = line (codes "refused no-end " ++ decimal entry)
 stop_lines (LinkCount entry calls links) = line (codes "refused link-count " ++ decimal entry ++ codes " " ++ decimal calls ++ codes " " ++ decimal links)
 stop_lines (BadLink entry call wanted found) = line (codes "refused link " ++ decimal entry ++ codes " " ++ decimal call ++ codes " " ++ encode_lower wanted ++ codes " " ++ encode_lower found)
+stop_lines NoRoom = []

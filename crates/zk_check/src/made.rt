@@ -1,4 +1,4 @@
-//! Receipts of one seal, made for the tests.
+//! Receipts of one entry, made for the tests, by hand: they don't rest on the writers that they test.
 
 use byte_cursor::{ByteList, Out};
 use digest_core::{Digest, Digester, hash, node};
@@ -7,32 +7,45 @@ use std::alloc::{AllocError, Global};
 /// A page's number and its first words; the rest of it is zero.
 pub(crate) type FirstWords<'a> = (u32, &'a [u32]);
 
-/// The receipt of one entry with one seal, of this pc, these steps and these input words. Its tree
-/// opens these pages, in rising order of their numbers, of a memory that is zero elsewhere.
+/// A seal of this pc, these steps and these input words. Its tree opens these pages, in rising order of their
+/// numbers, of a memory that is zero elsewhere.
+#[derive(Drop)]
+pub(crate) struct MadeSeal<'a> {
+    pub pc: u32,
+    pub steps: u32,
+    pub words: &'a [u32],
+    pub pages: &'a [FirstWords<'a>],
+}
+
+/// The receipt of one entry with these seals.
 pub(crate) fn receipt<D: Digester>(
     alloc: Global,
-    pc: u32,
-    steps: u32,
-    words: &[u32],
-    pages: &[FirstWords],
+    seals: &[MadeSeal],
 ) -> Result<ByteList, AllocError> {
-    let Ok(count) = u32::try_from(words.len()) else {
-        return Err(AllocError);
-    };
     let mut out = Out::new(alloc);
     out.put_all(b"SEAL")?;
     out.put_u16(1)?;
     out.put_u16(1)?;
     out.put_u32(0)?;
-    out.put_u32(1)?;
-    out.put_u32(pc)?;
-    out.put_u32(steps)?;
-    out.put_u32(count)?;
-    for word in words {
-        out.put_u32(*word)?;
+    put_count(&mut out, seals.len())?;
+    let zeros = zero_nodes::<D>(alloc)?;
+    for seal in seals {
+        out.put_u32(seal.pc)?;
+        out.put_u32(seal.steps)?;
+        put_count(&mut out, seal.words.len())?;
+        for word in seal.words {
+            out.put_u32(*word)?;
+        }
+        put_tree(&mut out, zeros.as_slice(), seal.pages)?;
     }
-    put_tree(&mut out, zero_nodes::<D>(alloc)?.as_slice(), pages)?;
     Ok(out.finish())
+}
+
+fn put_count(out: &mut Out, count: usize) -> Result<(), AllocError> {
+    let Ok(count) = u32::try_from(count) else {
+        return Err(AllocError);
+    };
+    out.put_u32(count)
 }
 
 // The digests of the nodes below the root over zero pages, from height 0 up.

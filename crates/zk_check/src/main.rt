@@ -3,7 +3,11 @@
 #![tactic(auto)]
 
 #[cfg(test)]
+mod asked;
+#[cfg(test)]
 mod guests;
+#[cfg(test)]
+mod id_tests;
 mod identifying;
 mod job;
 mod judging;
@@ -13,10 +17,13 @@ mod printed;
 mod refusals;
 #[cfg(test)]
 mod refusals_tests;
+#[cfg(test)]
+mod seals_tests;
 mod status;
 #[cfg(test)]
 mod tests;
 mod top;
+mod valid;
 
 use crate::status::Status;
 use digest_core::ShaDigester;

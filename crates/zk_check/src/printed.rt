@@ -1,6 +1,6 @@
 ghost use Rattle.std.specs.Prelude.{◌≡◌, string_bytes, IfOk};
 ghost use Rattle.hex.specs.Hex.{encode_lower};
-ghost use Rattle.zk_check.specs.Lines.{usage_lines, no_file_lines, too_long_lines, id_lines, malformed_lines, version_lines, form_lines, image_lines};
+ghost use Rattle.zk_check.specs.Lines.{usage_lines, no_file_lines, too_long_lines, id_lines};
 ghost use Rattle.zk_check.specs.BadElf.{bad_elf_lines};
 
 use crate::identifying::elf_text;
@@ -66,43 +66,6 @@ impl Printed {
     {
         let text = elf_text(stop);
         Printed::new(Status::BadFile, format!(in alloc; "bad elf {text}\n"))
-    }
-
-    pub(crate) fn refused_malformed(alloc: Global) -> Result<Printed, AllocError>
-        ensures { IfOk result (λ printed. (printed.status ≡ Status.Refused) × (string_bytes printed.text ≡ malformed_lines)) }
-    {
-        Printed::new(
-            Status::Refused,
-            String::from_str(alloc, "refused malformed\n"),
-        )
-    }
-
-    pub(crate) fn refused_version(alloc: Global, version: u16) -> Result<Printed, AllocError>
-        ensures { IfOk result (λ printed. (printed.status ≡ Status.Refused) × (string_bytes printed.text ≡ version_lines version)) }
-    {
-        Printed::new(
-            Status::Refused,
-            format!(in alloc; "refused version {version}\n"),
-        )
-    }
-
-    pub(crate) fn refused_form(alloc: Global) -> Result<Printed, AllocError>
-        ensures { IfOk result (λ printed. (printed.status ≡ Status.Refused) × (string_bytes printed.text ≡ form_lines)) }
-    {
-        Printed::new(
-            Status::Refused,
-            String::from_str(alloc, "refused not-built form\n"),
-        )
-    }
-
-    pub(crate) fn refused_image(alloc: Global, found: &Digest) -> Result<Printed, AllocError>
-        ensures { IfOk result (λ printed. (printed.status ≡ Status.Refused) × (string_bytes printed.text ≡ image_lines found.now)) }
-    {
-        let found = digits(alloc, found)?;
-        Printed::new(
-            Status::Refused,
-            format!(in alloc; "refused image {found}\n"),
-        )
     }
 }
 

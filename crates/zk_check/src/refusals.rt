@@ -1,8 +1,12 @@
 ghost use Rattle.std.specs.Prelude.{◌≡◌, ◌++◌, length, string_bytes, decimal, IfOk};
-ghost use Rattle.check_core.specs.Judgement.{Broken, NoEnd, LinkCount};
+ghost use Rattle.check_core.specs.declared.stop.CheckStop.TheVariants.{WrongImage, Broken, Unjoined, LinkCount, BadLink};
 ghost use Rattle.zk_check.specs.Lines.{journal_tail};
-ghost use Rattle.zk_check.specs.Refusals.{hex_word, fault_text, replay_text, stop_lines};
+ghost use Rattle.zk_check.specs.Refusals.{hex_word, fault_text, replay_text, state_text, stop_lines};
 
+use crate::printed::digits;
+use check_core::CheckStop;
+use claim_types::State;
+use digest_core::Digest;
 use rv_isa::Fault;
 use seal_replay::ReplayStop;
 use std::alloc::{AllocError, Global};
@@ -60,8 +64,90 @@ fn replay_text(alloc: Global, stop: &ReplayStop) -> Result<String, AllocError>
     }
 }
 
+// The line of a refusal; nothing for want of memory.
+pub(crate) fn stop_text(alloc: Global, stop: &CheckStop) -> Result<String, AllocError>
+    ensures { IfOk result (λ text. string_bytes text ≡ stop_lines stop.now) }
+{
+    match *stop {
+        CheckStop::Malformed => String::from_str(alloc, "refused malformed\n"),
+        CheckStop::Version(version) => format!(in alloc; "refused version {version}\n"),
+        CheckStop::NotBuilt => String::from_str(alloc, "refused not-built form\n"),
+        CheckStop::WrongImage(found) => image_text(alloc, &found),
+        CheckStop::Broken { entry, seal, stop } => broken_text(alloc, entry, seal, &stop),
+        CheckStop::Unjoined {
+            entry,
+            seal,
+            after,
+            before,
+        } => unjoined_text(alloc, entry, seal, &after, &before),
+        CheckStop::EndInside { entry, seal } => {
+            format!(in alloc; "refused end-inside {entry} {seal}\n")
+        }
+        CheckStop::NoEnd { entry } => format!(in alloc; "refused no-end {entry}\n"),
+        CheckStop::LinkCount {
+            entry,
+            calls,
+            links,
+        } => link_count_text(alloc, entry, calls, links),
+        CheckStop::BadLink {
+            entry,
+            call,
+            wanted,
+            found,
+        } => bad_link_text(alloc, entry, call, &wanted, &found),
+        CheckStop::Memory => Ok(String::new(alloc)),
+    }
+}
+
+// The line of a bundle that begins with another image than the id's.
+fn image_text(alloc: Global, found: &Digest) -> Result<String, AllocError>
+    ensures { IfOk result (λ text. string_bytes text ≡ stop_lines (WrongImage found.now)) }
+{
+    let found = digits(alloc, found)?;
+    format!(in alloc; "refused image {found}\n")
+}
+
+// A state: its pc, a colon and its root.
+fn state_text(alloc: Global, state: &State) -> Result<String, AllocError>
+    ensures { IfOk result (λ text. string_bytes text ≡ state_text state.now) }
+{
+    let pc = hex_word(alloc, state.pc)?;
+    let root = digits(alloc, &state.root)?;
+    format!(in alloc; "{pc}:{root}")
+}
+
+// The line of a seal that begins elsewhere than the one before it ends.
+fn unjoined_text(
+    alloc: Global,
+    entry: u16,
+    seal: u32,
+    after: &State,
+    before: &State,
+) -> Result<String, AllocError>
+    ensures { IfOk result (λ text. string_bytes text ≡ stop_lines (Unjoined entry seal after.now before.now)) }
+{
+    let after = state_text(alloc, after)?;
+    let before = state_text(alloc, before)?;
+    format!(in alloc; "refused unjoined {entry} {seal} {after} {before}\n")
+}
+
+// The line of a call that is linked to an entry with another claim.
+fn bad_link_text(
+    alloc: Global,
+    entry: u16,
+    call: u32,
+    wanted: &Digest,
+    found: &Digest,
+) -> Result<String, AllocError>
+    ensures { IfOk result (λ text. string_bytes text ≡ stop_lines (BadLink entry call wanted.now found.now)) }
+{
+    let wanted = digits(alloc, wanted)?;
+    let found = digits(alloc, found)?;
+    format!(in alloc; "refused link {entry} {call} {wanted} {found}\n")
+}
+
 // The line of a seal whose replay stops.
-pub(crate) fn broken_text(
+fn broken_text(
     alloc: Global,
     entry: u16,
     seal: u32,
@@ -73,20 +159,8 @@ pub(crate) fn broken_text(
     format!(in alloc; "refused seal {entry} {seal} {stop}\n")
 }
 
-// The line of an entry whose last seal doesn't halt.
-pub(crate) fn no_end_text(alloc: Global, entry: u16) -> Result<String, AllocError>
-    ensures { IfOk result (λ text. string_bytes text ≡ stop_lines (NoEnd entry)) }
-{
-    format!(in alloc; "refused no-end {entry}\n")
-}
-
 // The line of an entry with more or fewer calls than links.
-pub(crate) fn link_count_text(
-    alloc: Global,
-    entry: u16,
-    calls: u64,
-    links: u32,
-) -> Result<String, AllocError>
+fn link_count_text(alloc: Global, entry: u16, calls: u64, links: u32) -> Result<String, AllocError>
     ensures { IfOk result (λ text. string_bytes text ≡ stop_lines (LinkCount entry calls links)) }
 {
     format!(in alloc; "refused link-count {entry} {calls} {links}\n")

@@ -1,20 +1,13 @@
-//! Checks of receipts over a desk and a sink in memory.
+//! Checks of receipts of one seal, words, and failing calls, over a desk and a sink in memory.
 
+use crate::asked::{ID, ZEROS, answered, halts_7, own_id};
 use crate::guests::{ASSUMES, CLOSED, HALTS_7, ILLEGAL, OPENS_5, READS_3, SAYS_HELLO};
-use crate::made::{FirstWords, receipt};
+use crate::made::{FirstWords, MadeSeal, receipt};
 use crate::status::Status;
-use crate::top::check_top;
-use byte_cursor::{ByteList, Out, WordList};
-use claim_types::{State, state_digest};
-use digest_core::{Digester, ShaDigester, WeakDigester, hash};
-use outside::{MemDesk, MemFile, MemFiles, MemSink};
+use byte_cursor::Out;
+use digest_core::{ShaDigester, WeakDigester, hash};
 use receipt_codec::{read_bundle, write_bundle};
-use std::alloc::{AllocError, Global};
 use std::test::Fail;
-
-const ID: &str = "c4228a6f22f9441888bc855f0f0f64a5460ee1e92971478cc24068c3b8172aac";
-
-const ZEROS: &str = "0000000000000000000000000000000000000000000000000000000000000000";
 
 const VALID: &str = "valid\nexit 7\njournal 0
 claim b858adca5a484e582d131a73877a32084cb5b130eb98c49b829f126aa90c7a7e
@@ -30,59 +23,6 @@ entries 1\nseals 1\nsteps 11\n";
 
 const USAGE: &str =
     "usage: zk_check check RECEIPT ID [JOURNALFILE] | audit RECEIPT ENTRY ELF | id ELF | inspect RECEIPT\n";
-
-fn halts_7<D: Digester>(alloc: Global, steps: u32) -> Result<ByteList, AllocError> {
-    receipt::<D>(alloc, 0x1000, steps, &[], &HALTS_7)
-}
-
-fn byte_list(alloc: Global, bytes: &[u8]) -> Result<ByteList, AllocError> {
-    let mut out = Out::new(alloc);
-    out.put_all(bytes)?;
-    Ok(out.finish())
-}
-
-fn listed(alloc: Global, number: u32) -> Result<WordList, AllocError> {
-    let mut numbers = WordList::new(alloc);
-    numbers.push(number)?;
-    Ok(numbers)
-}
-
-// The image id of a receipt's seal.
-fn own_id(alloc: Global, bytes: &[u8]) -> Result<String, Fail> {
-    let bundle = read_bundle(alloc, bytes).map_err(|_| "not read")?;
-    let entry = bundle.entries.as_slice().first().ok_or("no entry")?;
-    let seal = entry.seals.as_slice().first().ok_or("no seal")?;
-    let before = State {
-        pc: seal.pc,
-        root: seal.tree.root::<ShaDigester>(),
-    };
-    let id = state_digest::<ShaDigester>(&before);
-    Ok(hex::encode(alloc, id.bytes().as_slice())?)
-}
-
-// Answers the words over a file `r`; of the desk's and the sink's calls one fails, 0 being none.
-fn answered<D: Digester>(
-    alloc: Global,
-    texts: &[&str],
-    held: Option<ByteList>,
-    read: u32,
-    put: u32,
-) -> Result<(Status, MemSink), AllocError> {
-    let mut files = MemFiles::new(alloc);
-    files.push(MemFile {
-        name: byte_list(alloc, b"r")?,
-        held,
-        room: 0,
-    })?;
-    let mut desk = MemDesk::new(alloc, files, listed(alloc, read)?)?;
-    let mut sink = MemSink::new(alloc, 1_000, listed(alloc, put)?)?;
-    let mut words = Vec::new(alloc);
-    for text in texts {
-        words.push(String::from_str(alloc, text)?)?;
-    }
-    let status = check_top::<D, _, _>(alloc, words.as_slice(), &mut desk, &mut sink);
-    Ok((status, sink))
-}
 
 #[test]
 fn a_run_that_halts_is_valid(rt: HostRuntime) -> Result<(), Fail> {
@@ -165,17 +105,16 @@ fn other_bytes_are_malformed(rt: HostRuntime) -> Result<(), Fail> {
 #[test]
 fn another_version_and_another_form_are_refused(rt: HostRuntime) -> Result<(), Fail> {
     let whole = halts_7::<ShaDigester>(rt.alloc(), 3)?;
-    // Version 9; and an entry of the one seal twice.
+    // Version 9; and the one entry twice.
     let mut version = Out::new(rt.alloc());
     version.put_all(b"SEAL")?;
     version.put_u16(9)?;
     let mut twice = Out::new(rt.alloc());
-    for byte in whole.as_slice().iter().take(12) {
-        twice.put_u8(*byte)?;
-    }
-    twice.put_u32(2)?;
+    twice.put_all(b"SEAL")?;
+    twice.put_u16(1)?;
+    twice.put_u16(2)?;
     for _ in 0..2 {
-        for byte in whole.as_slice().iter().skip(16) {
+        for byte in whole.as_slice().iter().skip(8) {
             twice.put_u8(*byte)?;
         }
     }
@@ -214,7 +153,15 @@ fn a_seal_is_refused_by_its_first_stop(rt: HostRuntime) -> Result<(), Fail> {
         (8, &[], &ASSUMES, "refused link-count 0 1 0\n"),
     ];
     for (steps, words, pages, line) in rows {
-        let held = receipt::<ShaDigester>(rt.alloc(), 0x1000, steps, words, pages)?;
+        let held = receipt::<ShaDigester>(
+            rt.alloc(),
+            &[MadeSeal {
+                pc: 0x1000,
+                steps,
+                words,
+                pages,
+            }],
+        )?;
         let id = own_id(rt.alloc(), held.as_slice())?;
         let (status, sink) = answered::<ShaDigester>(
             rt.alloc(),
@@ -232,7 +179,15 @@ fn a_seal_is_refused_by_its_first_stop(rt: HostRuntime) -> Result<(), Fail> {
 #[test]
 fn the_journal_of_a_valid_run_is_printed(rt: HostRuntime) -> Result<(), Fail> {
     let words = [0x6C6C_6548, 0x6F];
-    let held = receipt::<ShaDigester>(rt.alloc(), 0x1000, 11, &words, &SAYS_HELLO)?;
+    let held = receipt::<ShaDigester>(
+        rt.alloc(),
+        &[MadeSeal {
+            pc: 0x1000,
+            steps: 11,
+            words: &words,
+            pages: &SAYS_HELLO,
+        }],
+    )?;
     let (status, sink) = answered::<ShaDigester>(
         rt.alloc(),
         &["check", "r", HELLO_ID],
@@ -252,78 +207,6 @@ fn an_absent_file_is_named(rt: HostRuntime) -> Result<(), Fail> {
         let (status, sink) = answered::<ShaDigester>(rt.alloc(), words, None, 0, 0)?;
         assert_eq!(rt; status, Status::NoFile);
         assert_eq!(rt; sink.taken(), b"no-file r\n".as_slice());
-    }
-    Ok(())
-}
-
-// The first bytes of an ELF file of the guest that halts with 7. It has a second load header, of 16 bytes of memory
-// alone, which begins at this address.
-fn elf(alloc: Global, second: u32, length: usize) -> Result<ByteList, AllocError> {
-    let words = [
-        0x464C_457F,
-        0x0001_0101,
-        0,
-        0,
-        0x00F3_0002,
-        1,
-        0x1000,
-        52,
-        0,
-        0,
-        0x0020_0034,
-        2,
-        0,
-        1,
-        116,
-        0x1000,
-        0x1000,
-        12,
-        12,
-        7,
-        4,
-        1,
-        116,
-        second,
-        second,
-        0,
-        16,
-        6,
-        4,
-        0x893,
-        0x0070_0513,
-        0x73,
-    ];
-    let mut out = Out::new(alloc);
-    for word in words {
-        out.put_u32(word)?;
-    }
-    let whole = out.finish();
-    let mut out = Out::new(alloc);
-    for byte in whole.as_slice().iter().take(length) {
-        out.put_u8(*byte)?;
-    }
-    Ok(out.finish())
-}
-
-#[test]
-fn the_id_of_an_elf_file_is_printed(rt: HostRuntime) -> Result<(), Fail> {
-    // Where the second load header begins, how many bytes of the file there are, and the answer.
-    let rows = [
-        (
-            0x2000,
-            128,
-            Status::Done,
-            "id c4228a6f22f9441888bc855f0f0f64a5460ee1e92971478cc24068c3b8172aac\n",
-        ),
-        (0x100B, 128, Status::BadFile, "bad elf 14 overlap\n"),
-        (0x2000, 127, Status::BadFile, "bad elf 11 file-range\n"),
-        (0x2000, 51, Status::BadFile, "bad elf 1 short\n"),
-    ];
-    for (second, length, wanted, line) in rows {
-        let held = elf(rt.alloc(), second, length)?;
-        let (status, sink) = answered::<ShaDigester>(rt.alloc(), &["id", "r"], Some(held), 0, 0)?;
-        assert_eq!(rt; status, wanted);
-        assert_eq!(rt; sink.taken(), line.as_bytes());
     }
     Ok(())
 }

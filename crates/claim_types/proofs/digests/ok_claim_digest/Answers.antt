@@ -9,5 +9,5 @@ returns g c =
     let H : List ℕ → List ℕ = g.D.Digester.digest_of in
     c.digest_of_parts.ensures
     ∙ ap₂ (λ (after output : List ℕ). H (claim_string_of H c.args.image.now after output (Halted 0)))
-    (c.state_digest-after.ensures ∙ ap (λ (root : List ℕ). state_digest H (record { pc = 0; root = root })) c.zero_digest-2.ensures)
+    (c.state_digest-after.ensures ∙ ap (state_digest H) c.halted.ensures)
     (c.output_digest-output.ensures ∙ ap (λ (zero : List ℕ). H (output_string H c.args.journal.now zero)) c.zero_digest.ensures)

@@ -1,16 +1,10 @@
-use Rattle.std.proofs.Common.{◌≡◌, inl, inr, ⊎_elim, true, false, Result, Ok, Err, sym, ap, ◌∙◌, arith}
-use Rattle.std.specs.Prelude.{OnOk, is_err}
+use Rattle.std.proofs.Common.{inl, inr, ⊎_elim, ap, ◌∙◌, arith}
 use Rattle.std.proofs.lemmas.Result.{err_from_is_err_and}
 use Rattle.page_core.specs.Stored.{Stored, memory_of}
 use Rattle.elf_image.proofs.Faults.{header_fault, load_fault, entry_fault, no_fault}
 use Rattle.elf_image.proofs.Disjoint.{all_pass, below_top}
 use Rattle.elf_image.proofs.Filled.{zero_at_first, filled_none, filled_more, zero_above, loads_file}
 use Rattle.elf_image.proofs.loader.load.Goals as goal
-
--- what holds of a result that is no error
-at_ok : {T E : Type 0} (r : Result T E) (P : Type 0) → is_err r ≡ false → OnOk r P → P
-at_ok (Ok x) P e h = h
-at_ok (Err x) P e h = absurd (cc)
 
 -- the fault of the file's header is the file's
 pub returns-in_err-header-clause-fault : goal.returns-in_err-header-clause-fault
@@ -49,7 +43,7 @@ pub loop-load-preserved : goal.loop-load-preserved
 loop-load-preserved c =
     let all = all_pass c.args.file.now c.as_slice-load-items.result.now _ (c.as_slice-load-items.ensures ∙ c.in_ok-loads.ensures.loads) c.in_ok-loads.ensures.passes in
     filled_more c.args.file.now c.as_slice-load-items.result.now all c.loop-load.load-index (memory_of c.loop-load.map) (memory_of c.copy.new.map) c.loop-load-test.true
-    c.loop-load.invariant (at_ok c.copy.result _ (sym c.is_err.ensures.value ∙ c.if-is_err.false) c.copy.ensures)
+    c.loop-load.invariant c.in_ok-copy.ensures
 
 -- the memory is zero from the top on
 pub invariant_of-result : goal.invariant_of-result

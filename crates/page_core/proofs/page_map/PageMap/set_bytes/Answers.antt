@@ -1,7 +1,7 @@
 use Rattle.std.proofs.Common.{◌≡◌, ◌<◌, arith, length, ◌++◌, sym, ap₂, ◌∙◌, eqb-true}
 use Rattle.std.proofs.lemmas.List.{take-append-drop}
 use Rattle.std.proofs.lemmas.Result.{err_from_is_err_and}
-use Rattle.page_core.proofs.Ranges.{put_none, put_next, torn_so_far, absent_at, put_all, stored_all}
+use Rattle.page_core.proofs.Ranges.{put_none, put_next, torn_so_far, stored_so_far, absent_at, put_all, stored_all}
 use Rattle.page_core.proofs.page_map.PageMap.set_bytes.Goals as goal
 
 pub loop-rest-init : goal.loop-rest-init
@@ -11,6 +11,11 @@ pub returns-in_err-put_bytes-clause-torn : goal.returns-in_err-put_bytes-clause-
 returns-in_err-put_bytes-clause-torn c =
     let out = err_from_is_err_and c.from_residual.result c.from_residual.ensures.1 in
     rw out.1 (torn_so_far _ _ _ _ _ _ _ c.loop-rest.invariant c.in_err-put_bytes.ensures.kept)
+
+pub returns-in_err-put_bytes-clause-stored_some : goal.returns-in_err-put_bytes-clause-stored_some
+returns-in_err-put_bytes-clause-stored_some c =
+    let out = err_from_is_err_and c.from_residual.result c.from_residual.ensures.1 in
+    rw out.1 (stored_so_far _ _ _ _ _ _ _ c.loop-rest.invariant c.in_err-put_bytes.ensures.kept)
 
 pub returns-in_err-put_bytes-clause-absent : goal.returns-in_err-put_bytes-clause-absent
 returns-in_err-put_bytes-clause-absent c =

@@ -1,4 +1,4 @@
-use Rattle.std.proofs.Common.{rules, ◌≡◌, ℕ, ◌+◌, ◌-◌, ◌/◌, ◌%◌, List, length, refl, sym, ap, ◌∙◌, arith, w32}
+use Rattle.std.proofs.Common.{rules, ◌≡◌, ℕ, ◌/◌, ◌%◌, List, length, sym, ap, ◌∙◌, arith, w32}
 use Rattle.std.specs.Int.{from_le_bytes}
 use Rattle.std.specs.Box.{with_value}
 use Rattle.std.proofs.lemmas.Nat.{from_le_bytes-to_le_bytes_4}
@@ -11,7 +11,7 @@ use Rattle.rv_step.proofs.open_pages.OpenPagesBus.store_word.Goals as goal
 
 pub returns-clause-same_pages : goal.returns-clause-same_pages
 returns-clause-same_pages c =
-    λ i k. open_same _ c.self.inside.pages.items c.args.self.now (c.args.address / 1024) c.in-Some.page (with_value c.in-Some.page c.of.result) c.self.view_is
+    λ i k. open_same _ c.self.inside.pages.items c.args.self.now (c.args.address / 1024) c.in-Some.page (with_value c.in-Some.page c.put.new.self) c.self.view_is
     (found _ c.self.inside.pages.items c.args.self.now (c.args.address / 1024) c.in-Some.page _ c.self.view_is c.requires.opened c.in-Some.is c.index_mut.ensures.value)
     k i
 
@@ -27,10 +27,9 @@ returns-clause-written c =
     word_of bs c.args.value (search rules) (search rules)
     (sym (ap (from_le_bytes w32) c.to_le_bytes.ensures ∙ from_le_bytes-to_le_bytes_4 c.args.value (omega arith))) in
     let size : length bs ≡ 4 = ap length c.to_le_bytes.ensures in
-    let was : c.bytes.result.now ≡ page = c.bytes.ensures.value ∙ c.deref.ensures in
-    let long : length page ≡ 1024 = sym (ap length c.deref.ensures) ∙ c.bytes.ensures.page.0 in
-    let count : at + 4 - at ≡ length bs = omega arith in
-    written _ c.self.inside.pages.items c.args.self.now c.args.address c.in-Some.page (with_value c.in-Some.page c.of.result) bs c.self.view_is
+    let was : c.deref_mut.result.now ≡ page = c.deref_mut.ensures.value in
+    let long : length page ≡ 1024 = sym (ap length was) ∙ c.put.ensures.was_page.0 in
+    written _ c.self.inside.pages.items c.args.self.now c.args.address c.in-Some.page (with_value c.in-Some.page c.put.new.self) bs c.self.view_is
     (found _ c.self.inside.pages.items c.args.self.now (c.args.address / 1024) c.in-Some.page _ c.self.view_is c.requires.opened c.in-Some.is c.index_mut.ensures.value)
-    long (omega arith) (c.of.ensures ∙ rw (count, was, c.copy_from_slice.ensures.after) refl)
+    long (omega arith) (rw was at c.put.ensures.value)
     ∙ ap (put (flat (pages_in c.args.self.now)) c.args.address) (sym word)

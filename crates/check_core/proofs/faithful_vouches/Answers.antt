@@ -1,5 +1,0 @@
-use Rattle.check_core.proofs.Vouched as Vouched
-use Rattle.check_core.proofs.faithful_vouches.Goals as goal
-
-pub returns : goal.returns
-returns g c = Vouched.faithful_vouches g.D.Digester.digest_of

@@ -1,0 +1,71 @@
+-- What a check answers of bytes and of bundles. H is the digest function.
+use Rattle.std.specs.Prelude.{◌≡◌, ⊤, ℕ, ◌<◌, List, length, Option, Some, None}
+use Rattle.claim_types.specs.Claims.{SpanClaim}
+use Rattle.receipt_types.specs.Bundles.{Bundle}
+use Rattle.receipt_types.specs.Spelling.{Spells}
+use Rattle.receipt_codec.specs.Reading.{BeginsVersion}
+use Rattle.receipt_codec.specs.declared.stop.BundleStop.{BundleStop}
+use Rattle.receipt_codec.specs.declared.stop.BundleStop.TheVariants as Read
+use Rattle.seal_replay.specs.declared.stop.ReplayStop.{ReplayStop}
+use Rattle.seal_replay.specs.declared.stop.ReplayStop.TheVariants as Replay
+use Rattle.lift_join.specs.Joins.{joined}
+use Rattle.check_core.specs.declared.stop.CheckStop.{CheckStop}
+use Rattle.check_core.specs.declared.stop.CheckStop.TheVariants.{Malformed, Version, NotBuilt, Broken, Memory}
+use Rattle.check_core.specs.Judgement.{Accepts, first_stop}
+use Rattle.check_core.specs.Reports.{Report, report_of}
+
+-- ---- the answers to a bundle
+-- it has one entry, and this is the first that stops it
+abbrev pub IsFirstStop : (List ℕ → List ℕ) → Bundle → List ℕ → CheckStop → Type 0
+IsFirstStop H B id stop = (length B ≡ 1) × (first_stop H B id ≡ Some stop)
+
+-- a refusal of a bundle: it has several entries, or one and this first stop, or there was no memory
+abbrev pub Stops : (List ℕ → List ℕ) → Bundle → List ℕ → CheckStop → Type 0
+Stops H B id Malformed = ⊥
+Stops H B id (Version version) = ⊥
+Stops H B id NotBuilt = 1 < length B
+Stops H B id Memory = ⊤
+Stops H B id stop = IsFirstStop H B id stop
+
+-- ---- the answers to bytes
+-- they spell a bundle of one entry that is accepted under the id, and this is its report
+pub record IsReported (H : List ℕ → List ℕ) (id bytes : List ℕ) (report : Report) : Type 0 where
+  pub bundle : Bundle
+  pub spelled : Spells bundle bytes
+  pub one : length bundle ≡ 1
+  pub accepted : Accepts H bundle id
+  pub is_report : report_of H bundle ≡ Some report
+
+-- they spell no bundle, and don't begin with another version
+pub record IsMalformed (bytes : List ℕ) : Type 0 where
+  pub none : (B : Bundle) → Spells B bytes → ⊥
+  pub no_version : (version : ℕ) → BeginsVersion version bytes → ⊥
+
+-- they spell a bundle that is refused so
+pub record IsStopped (H : List ℕ → List ℕ) (id bytes : List ℕ) (stop : CheckStop) : Type 0 where
+  pub bundle : Bundle
+  pub spelled : Spells bundle bytes
+  pub stops : Stops H bundle id stop
+
+-- a refusal; the causes exclude one another, but for want of memory
+abbrev pub Refuses : (List ℕ → List ℕ) → List ℕ → List ℕ → CheckStop → Type 0
+Refuses H id bytes Malformed = IsMalformed bytes
+Refuses H id bytes (Version version) = BeginsVersion version bytes
+Refuses H id bytes Memory = ⊤
+Refuses H id bytes stop = IsStopped H id bytes stop
+
+-- ---- parts of the check
+abbrev pub stop_of_bytes : BundleStop → CheckStop
+stop_of_bytes Read.Malformed = Malformed
+stop_of_bytes (Read.Version version) = Version version
+stop_of_bytes Read.Memory = Memory
+
+-- the stop of a seal whose replay stops so
+abbrev pub broken_by : ℕ → ℕ → ReplayStop → CheckStop
+broken_by e k Replay.Memory = Memory
+broken_by e k stop = Broken e k stop
+
+-- a claim after the claim of what is before it, if there is any
+abbrev pub join_next : Option SpanClaim → SpanClaim → SpanClaim
+join_next None next = next
+join_next (Some claim) next = joined claim next

@@ -1,0 +1,80 @@
+//! What is reported of an accepted bundle of one entry.
+ghost use Rattle.std.specs.Prelude.{◌≡◌, ◌≤◌, ◌*◌, [], ◌∷◌, length, map, IfOk};
+ghost use Rattle.std.specs.Arc.{arc_value};
+ghost use Rattle.receipt_types.specs.Limits.{AllSealLimits};
+ghost use Rattle.receipt_types.specs.Seals as plain;
+ghost use Rattle.check_core.specs.Reports as spec;
+
+use crate::report::{ClaimList, EntryClaim, Report};
+use claim_types::{Exit, SpanClaim, claim_digest, conditional_digest, state_digest};
+use digest_core::{Digester, hash};
+use receipt_types::{Entry, LinkList, Seal};
+use std::alloc::{AllocError, Global};
+use std::sync::Arc;
+
+// The report of a bundle of this one entry, whose seals have this claim.
+pub(crate) fn report_of<D: Digester>(
+    alloc: Global,
+    entry: &Entry,
+    claim: SpanClaim,
+) -> Result<Report, AllocError>
+    requires few { length entry.now.seals ≤ 65535 }
+    requires limits { AllSealLimits entry.now.seals }
+    ensures { IfOk result (λ report. report ≡ record { journal = claim.journal; entries = spec.entry_report D.digest_of entry.now claim ∷ [] }) }
+{
+    let mut entries = ClaimList::new(alloc);
+    entries.push(entry_report::<D>(alloc, entry, &claim)?)?;
+    Ok(Report {
+        journal: claim.journal,
+        entries,
+    })
+}
+
+// The report of an entry, whose seals have this claim.
+fn entry_report<D: Digester>(
+    alloc: Global,
+    entry: &Entry,
+    claim: &SpanClaim,
+) -> Result<EntryClaim, AllocError>
+    requires few { length entry.now.seals ≤ 65535 }
+    requires limits { AllSealLimits entry.now.seals }
+    ensures { IfOk result (λ report. report ≡ spec.entry_report D.digest_of entry.now claim.now) }
+{
+    let mut links = LinkList::new(alloc);
+    links.extend(entry.links.as_slice())?;
+    Ok(EntryClaim {
+        image: state_digest::<D>(&claim.before),
+        exit: code_of(claim.exit),
+        journal_bytes: claim.journal.len() as u64,
+        journal_digest: hash::<D>(claim.journal.as_slice()),
+        conditional: conditional_digest::<D>(claim),
+        claim: claim_digest::<D>(claim),
+        calls: claim.calls.len() as u64,
+        seals: entry.seals.len() as u32,
+        steps: steps_of(entry.seals.as_slice()),
+        links,
+    })
+}
+
+// The exit code of a claim that halts, and 0 of another.
+fn code_of(exit: Exit) -> u32
+    ensures { result ≡ spec.code_of exit }
+{
+    match exit {
+        Exit::Halted(code) => code,
+        Exit::Split => 0,
+    }
+}
+
+// The sum of the steps of seals.
+fn steps_of(seals: &[Arc<Seal, Global>]) -> u64
+    requires few { length seals.now ≤ 65535 }
+    requires limits { AllSealLimits (map (λ seal. arc_value seal) seals.now) }
+    ensures { result ≡ plain.steps_of (map (λ seal. arc_value seal) seals.now) }
+{
+    let mut steps = 0u64;
+    for seal in seals {
+        steps += u64::from(seal.steps);
+    }
+    steps
+}
