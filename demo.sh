@@ -1,6 +1,7 @@
 #!/bin/bash
-# Builds zk_check, prints the image id of a guest, checks a receipt under this id and under another one, and then 36 bytes
-# that claim 16,777,216 input words, in 20 MB of address space: room is made for the words that are there alone.
+# Builds zk_check and zk_prove, prints the image id of a guest, checks a receipt under this id and under another one, and
+# then 36 bytes that claim 16,777,216 input words, in 20 MB of address space: room is made for the words that are there
+# alone. Runs a guest that was written in C on the words 1071 and 462.
 set -u
 cd "$(dirname "$0")/crates/zk_check" || exit 1
 
@@ -30,5 +31,13 @@ show 0 out/zk_check id "$elf"
 show 0 out/zk_check check "$receipt" "$id"
 show 1 out/zk_check check "$receipt" "$other"
 
-ulimit -v 20000
-show 1 out/zk_check check data/claims.receipt "$id"
+(ulimit -v 20000; show 1 out/zk_check check data/claims.receipt "$id") || exit 1
+
+cd ../zk_prove || exit 1
+printf '$ rt run\n'
+rt run >"$log" 2>&1 || { cat "$log"; exit 1; }
+pair=$(mktemp)
+trap 'rm -f "$log" "$pair"' EXIT
+printf '\057\004\000\000\316\001\000\000' >"$pair"
+show 0 out/zk_prove exec ../../examples/guests/gcd.elf "$pair" 1000
+show 1 out/zk_prove exec ../../examples/guests/gcd.elf "$pair" 10

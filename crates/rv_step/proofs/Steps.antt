@@ -1,5 +1,5 @@
 -- The act that is next, and what doing it answers.
-use Rattle.std.proofs.Common.{◌≡◌, ℕ, zero, suc, ◌+◌, ◌/◌, ◌%◌, ◌<◌, Bool, true, false, not, cond, leb, eqb, List, [], ◌∷◌, length, get_or, take, refl, sym, ap, ◌∙◌, subst, arith, add-zero, IsTrue, Option, Some, None, Result, Ok, Err, ⊎_elim}
+use Rattle.std.proofs.Common.{◌≡◌, ℕ, zero, suc, ◌+◌, ◌/◌, ◌%◌, ◌<◌, ◌≤◌, Bool, true, false, not, cond, leb, eqb, List, [], ◌∷◌, length, get_or, take, refl, sym, ap, ◌∙◌, subst, arith, add-zero, IsTrue, Option, Some, None, Result, Ok, Err, ⊎_elim}
 use Rattle.std.proofs.lemmas.Bool.Decides.{nat_tests, leb_tells}
 use Rattle.rv_isa.specs.declared.instr.LoadOp.{LoadOp}
 use Rattle.rv_isa.specs.declared.instr.LoadOp.TheVariants.{Lb, Lh, Lw, Lbu, Lhu}
@@ -10,13 +10,13 @@ use Rattle.host_calls.specs.declared.call.Call.{Call}
 use Rattle.page_core.specs.Memory.{top, contains, pages_of, ascending, without}
 use Rattle.rv_step.specs.declared.act.Act.{Act}
 use Rattle.rv_step.specs.declared.act.Act.TheVariants.{Sets, Does, Faults}
-use Rattle.rv_step.specs.Machine.{State, Event, Went, Faulted, load_width, store_width, act, done, called, data_of, pages_of_all, foot_at, foot_of, step_of, first_closed}
+use Rattle.rv_step.specs.Machine.{State, Event, Went, Faulted, load_width, store_width, act, done, called, data_of, pages_of_all, foot_at, foot_of, cost_of_act, step_of, step_cost, first_closed}
 use Rattle.rv_isa.specs.Registers.{with_register}
 use Rattle.rv_step.specs.declared.stepping.Event.{Event as StepEvent}
 use Rattle.rv_step.specs.declared.stepping.Event.TheVariants as E
 use Rattle.rv_step.specs.declared.stepping.StepStop.{StepStop}
 use Rattle.rv_step.specs.declared.stepping.StepStop.TheVariants as S
-use Rattle.rv_step.specs.Stepping.{fetch_foot, Opens, AllOpen, IsNext, Answers, IsStepOf, fetched, act_fault}
+use Rattle.rv_step.specs.Stepping.{fetch_foot, Opens, AllOpen, IsNext, Answers, IsStepOf, IsPaidStepOf, fetched, act_fault}
 use Rattle.rv_step.specs.Acts.{IsSound}
 use Rattle.rv_step.proofs.Acts.{acts_are_sound}
 use Rattle.rv_step.proofs.Frame.{IsSupplied, supplied_act}
@@ -137,6 +137,11 @@ module _ (opens : ℕ → Bool) (s : State) (a : Act) (next : IsNext opens s a) 
   unfolding step_of
   next_step = ap (λ b. done b s) (sym next.is)
 
+  -- what it costs is what the step costs
+  pub next_cost : cost_of_act a ≡ step_cost s
+  unfolding step_cost
+  next_cost = ap cost_of_act next.is
+
   -- its data lie in open pages
   pub next_open : AllOpen opens (data_of a)
   next_open =
@@ -174,6 +179,13 @@ call_answers opens s t call (Err (S.Miss page)) next h = absurd h
 call_answers opens s t call (Err (S.Fault fault)) next h =
     let (none, is) = step_answers opens s (Does call) _ next (call_done call s ∙ h.0) in (none, (is, h.1))
 call_answers opens s t call (Err S.Memory) next h = (next.no_closed, h)
+
+-- the refusal of a step that costs little enough, as that of a step within the limit
+pub paid_stop : (opens : ℕ → Bool) (room : ℕ) (s t : State) (stop : StepStop) → step_cost s ≤ room → IsStepOf opens s t (Err stop)
+    → IsPaidStepOf opens room s t (Err stop)
+paid_stop opens room s t (S.Miss page) fits h = h
+paid_stop opens room s t (S.Fault fault) fits h = (fits, h)
+paid_stop opens room s t S.Memory fits h = h
 
 -- the first byte of a range
 pub open_start : (opens : ℕ → Bool) (a n : ℕ) → 0 < n → Opens opens a n → IsTrue (opens (a / 1024))

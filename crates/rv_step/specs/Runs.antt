@@ -1,8 +1,9 @@
 -- The uncut run: an image and words, one step after the other.
 use Rattle.std.specs.Prelude.{◌≡◌, ℕ, zero, suc, ◌+◌, ◌≤◌, cond, ltb, List, [], ◌++◌, replicate, Option, Some, None, option_and_then}
-use Rattle.rv_isa.specs.declared.fault.Fault.{Fault}
 use Rattle.page_core.specs.Images.{Image}
 use Rattle.rv_step.specs.Machine.{State, Event, Went, Halted, Faulted, step_of, foot_of, step_cost}
+use Rattle.rv_step.specs.declared.outcome.Outcome.{Outcome}
+use Rattle.rv_step.specs.declared.outcome.Outcome.TheVariants.{Halted as HaltedWith, Faulted as FaultedAt, OverLimit}
 
 -- where the run of an image and input words begins: all registers are zero
 abbrev pub start : Image → List ℕ → State
@@ -37,12 +38,6 @@ unfoldable pub touched : State → ℕ → List ℕ
 touched s zero = []
 touched s (suc n) = touched s n ++ pages_at (after s n)
 
--- how a run ends under a limit on its cost
-pub data Outcome : Type 0 where
-  HaltedWith : ℕ → Outcome
-  FaultedAt : Fault → ℕ → ℕ → Outcome
-  OverLimit : ℕ → Outcome
-
 -- what ends a run at its step k, from the state t before that step, the earlier steps having cost c
 abbrev pub ends_with : ℕ → ℕ → Event → Option Outcome
 ends_with k pc (Went u) = None
@@ -59,3 +54,9 @@ pub record IsOutcome (s : State) (limit : ℕ) (o : Outcome) : Type 0 where
   pub reached : after s step ≡ Some state
   pub afforded : spent s step ≤ limit
   pub ended : verdict limit (spent s step) step state ≡ Some o
+
+-- how many steps were done by then, of which the first k went: the one that halts is one of them, one that faults or costs too much isn't
+abbrev pub steps_done : ℕ → Outcome → ℕ
+steps_done k (HaltedWith code) = k + 1
+steps_done k (FaultedAt fault pc step) = k
+steps_done k (OverLimit step) = k

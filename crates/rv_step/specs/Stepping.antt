@@ -1,5 +1,5 @@
 -- What a step over a bus answers, and what it leaves.
-use Rattle.std.specs.Prelude.{◌≡◌, ℕ, ◌+◌, ◌/◌, ◌<◌, Bool, cond, leb, List, [], ◌∷◌, drop, IsTrue, Option, Some, None, Result, Ok, Err}
+use Rattle.std.specs.Prelude.{◌≡◌, ℕ, ◌+◌, ◌/◌, ◌<◌, ◌≤◌, Bool, cond, leb, List, [], ◌∷◌, drop, IsTrue, Option, Some, None, Result, Ok, Err}
 use Rattle.rv_isa.specs.declared.fault.Fault.{Fault}
 use Rattle.page_core.specs.Memory.{top}
 use Rattle.rv_step.specs.declared.act.Act.{Act}
@@ -10,6 +10,7 @@ use Rattle.rv_step.specs.declared.place.Core.{Core}
 use Rattle.rv_step.specs.declared.looking.Looked.{Looked}
 use Rattle.rv_step.specs.declared.stepping.Event.{Event as StepEvent}
 use Rattle.rv_step.specs.declared.stepping.Event.TheVariants as E
+use Rattle.rv_step.specs.declared.stepping.Paid.{Paid}
 use Rattle.rv_step.specs.declared.stepping.StepStop.{StepStop}
 use Rattle.rv_step.specs.declared.stepping.StepStop.TheVariants as S
 
@@ -85,3 +86,10 @@ Answers event s t (Err S.Memory) = t ≡ s
 abbrev pub IsStepOf : (ℕ → Bool) → State → State → Result StepEvent StepStop → Type 0
 IsStepOf opens s t (Err (S.Miss page)) = (first_closed opens (foot_of s) ≡ Some page) × (t ≡ s)
 IsStepOf opens s t answer = (first_closed opens (foot_of s) ≡ None) × Answers (step_of s) s t answer
+
+-- so it is of a step that is done only where it costs at most so much, which is tested before its fault
+abbrev pub IsPaidStepOf : (ℕ → Bool) → ℕ → State → State → Result (Option Paid) StepStop → Type 0
+IsPaidStepOf opens room s t (Ok None) = (first_closed opens (foot_of s) ≡ None) × (room < step_cost s) × (t ≡ s)
+IsPaidStepOf opens room s t (Ok (Some paid)) = (paid.cost ≡ step_cost s) × (step_cost s ≤ room) × IsStepOf opens s t (Ok paid.event)
+IsPaidStepOf opens room s t (Err (S.Fault fault)) = (step_cost s ≤ room) × IsStepOf opens s t (Err (S.Fault fault))
+IsPaidStepOf opens room s t (Err stop) = IsStepOf opens s t (Err stop)

@@ -13,6 +13,7 @@ mod foot_tests;
 mod laws;
 mod looking;
 mod open_pages;
+mod outcome;
 mod place;
 mod run_log;
 mod stepping;
@@ -30,7 +31,8 @@ pub use laws::{
 };
 pub use looking::{Looked, look};
 pub use open_pages::OpenPages;
+pub use outcome::Outcome;
 pub use place::Core;
 pub use run_log::RunLog;
-pub use stepping::{Event, StepStop, step};
+pub use stepping::{Event, Paid, StepStop, step, step_within};
 pub use tape::WordTape;

@@ -112,7 +112,7 @@ pub(crate) fn footprint(pc: u32, act: &Act) -> Foot
 }
 
 // The cost of an act.
-fn cost_of(act: &Act) -> u32
+pub(crate) fn cost_of(act: &Act) -> u32
     requires { KeepsLimits act.now }
     ensures { result ≡ cost_of_act act.now }
 {

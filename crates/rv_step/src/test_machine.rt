@@ -1,7 +1,9 @@
 //! A machine over pages in memory, for the tests.
 ghost use Rattle.std.specs.Prelude.{◌≤◌, ◌<◌, length};
 
-use crate::{Core, Event, Looked, OpenPages, RunLog, StepStop, WordTape, look, step};
+use crate::{
+    Core, Event, Looked, OpenPages, Paid, RunLog, StepStop, WordTape, look, step, step_within,
+};
 use byte_cursor::WordList;
 use page_core::Page;
 use rv_isa::{Instr, LoadOp, Regs, StoreOp, encode};
@@ -109,6 +111,18 @@ impl Machine {
             &mut self.pages,
             &mut self.tape,
             &mut self.log,
+        )
+    }
+
+    /// Does the next step where it costs at most `room`.
+    pub fn step_within(&mut self, rt: &impl Abort, room: u64) -> Result<Option<Paid>, StepStop> {
+        assert!(rt; self.core.pc % 4 == 0);
+        step_within(
+            &mut self.core,
+            &mut self.pages,
+            &mut self.tape,
+            &mut self.log,
+            room,
         )
     }
 

@@ -1,10 +1,11 @@
 //! What loads, stores and host calls do, and the bus in memory.
 use crate::test_machine::{Machine, load_word_of, store_word_of};
-use crate::{Bus, Event, OpenPages};
+use crate::{Bus, Event, OpenPages, Paid, StepStop};
 use digest_core::Digest;
 use host_calls::AssumeCall;
 use page_core::Page;
-use rv_isa::{LoadOp, StoreOp};
+use rv_isa::{Fault, LoadOp, StoreOp};
+use std::alloc::{AllocError, Global};
 use std::test::Fail;
 
 #[test]
@@ -147,5 +148,45 @@ fn a_program_reads_commits_assumes_and_halts(rt: HostRuntime) -> Result<(), Fail
         ]),
     };
     assert_eq!(rt; machine.log.calls.as_slice(), [call].as_slice());
+    Ok(())
+}
+
+// A READ of two words into 0x2000.
+fn reading_two(alloc: Global) -> Result<Machine, AllocError> {
+    let mut machine = Machine::at(alloc, &[0x0000_0073], &[0x4433_2211, 0x8877_6655])?;
+    machine.open(8, &[9; 16])?;
+    machine.calls(1, 0x2000, 2);
+    Ok(machine)
+}
+
+#[test]
+fn a_step_is_done_within_its_room(rt: HostRuntime) -> Result<(), Fail> {
+    let mut machine = reading_two(rt.alloc())?;
+    let made = reading_two(rt.alloc())?;
+    assert_eq!(rt; machine.step_within(&rt, 2), Ok(None));
+    assert!(rt; machine.is_same(&made));
+    let paid = Paid {
+        event: Event::Went,
+        cost: 3,
+    };
+    assert_eq!(rt; machine.step_within(&rt, 3), Ok(Some(paid)));
+    assert_eq!(rt; (machine.core.pc, machine.tape.used()), (0x1004, 2));
+    assert!(rt; machine.pages.is_open(8));
+    assert_eq!(rt; machine.pages.load_word(0x2004), 0x8877_6655);
+    Ok(())
+}
+
+#[test]
+fn a_fault_is_told_within_its_room(rt: HostRuntime) -> Result<(), Fail> {
+    // EBREAK
+    let mut machine = Machine::at(rt.alloc(), &[0x0010_0073], &[])?;
+    let made = Machine::at(rt.alloc(), &[0x0010_0073], &[])?;
+    assert_eq!(rt; machine.step_within(&rt, 0), Ok(None));
+    assert!(rt; machine.is_same(&made));
+    assert_eq!(rt;
+        machine.step_within(&rt, 1),
+        Err(StepStop::Fault(Fault::Break))
+    );
+    assert!(rt; machine.is_same(&made));
     Ok(())
 }

@@ -15,12 +15,13 @@ use Rattle.check_core.specs.declared.stop.CheckStop.TheVariants.{Memory as NoRoo
 use Rattle.check_core.specs.Checking.{Refuses}
 use Rattle.check_core.specs.Laws.{AcceptedUnstopped}
 use Rattle.elf_image.specs.Tests.{elf_fault}
-use Rattle.zk_check.specs.declared.status.Status.{Status}
-use Rattle.zk_check.specs.declared.status.Status.TheVariants.{Done, TooLong, ReadFault, Memory}
+use Rattle.cli_text.specs.declared.status.Status.{Status}
+use Rattle.cli_text.specs.declared.status.Status.TheVariants.{Done, TooLong}
 use Rattle.zk_check.specs.Words.{Job, check, identify, file_of, limit_of, job_of}
-use Rattle.zk_check.specs.Lines.{too_long_lines}
+use Rattle.cli_text.specs.Lines.{too_long_lines}
+use Rattle.cli_text.specs.Ends.{IsDoneOrFails}
 use Rattle.zk_check.specs.Answers.{Judged, Identified, AnswersBytes, AnswersFile, AnswersJob, Answers}
-use Rattle.zk_check.specs.Ends.{NamesAccepted, NamesLoaded, IsDoneOrFails}
+use Rattle.zk_check.specs.Ends.{NamesAccepted, NamesLoaded}
 
 none_not_some : {A : Type 0} {B : Type 0} (x : A) → None ≡ Some x → B
 none_not_some x e = absurd (cc)
@@ -103,7 +104,3 @@ loaded_ends H words told status lines answers named =
     subst (λ (s : Status). IsDoneOrFails s)
     (sym (identified_done H named.bytes status lines named.passes
     (answers_of H words told status lines answers (identify named.elf) named.is_job named.files named.is_told named.bytes named.held named.within))) tt
-
-pub silent_ends : (status : Status) (Rises : Type 0) → (status ≡ Memory) ⊎ ((status ≡ ReadFault) × Rises) → IsDoneOrFails status
-silent_ends status Rises (inl e) = subst (λ (s : Status). IsDoneOrFails s) (sym e) tt
-silent_ends status Rises (inr e) = subst (λ (s : Status). IsDoneOrFails s) (sym e.0) tt

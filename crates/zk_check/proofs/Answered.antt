@@ -3,10 +3,10 @@ use Rattle.std.proofs.Common.{◌≡◌, ◌≤◌, inl, inr, ℕ, Bool, List, l
 use Rattle.std.proofs.lemmas.Bool.{le-leb}
 use Rattle.std.specs.Prelude.{MatchBool, IfSome}
 use Rattle.outside.specs.Files.{Files}
-use Rattle.zk_check.specs.declared.status.Status.{Status}
-use Rattle.zk_check.specs.declared.status.Status.TheVariants.{TooLong}
+use Rattle.cli_text.specs.declared.status.Status.{Status}
+use Rattle.cli_text.specs.declared.status.Status.TheVariants.{TooLong}
 use Rattle.zk_check.specs.Words.{Job, check, identify, file_of, limit_of, job_of}
-use Rattle.zk_check.specs.Lines.{too_long_lines}
+use Rattle.cli_text.specs.Lines.{too_long_lines}
 use Rattle.zk_check.specs.Answers.{AnswersBytes, IsOfFile, AnswersFile, AnswersJob, Answers}
 
 -- an answer to bytes is one that the job may have

@@ -1,14 +1,14 @@
--- What stands after the program.
+-- What a status of 0 tells.
 use Rattle.std.proofs.Common.{◌≡◌, inl, inr, ℕ, Bool, true, false, List, length, Option, Some, None, subst}
 use Rattle.std.specs.Prelude.{nat_le, MatchBool}
 use Rattle.outside.specs.Files.{Files}
 use Rattle.receipt_types.specs.Laws.{LimitsGiveForm}
 use Rattle.check_core.specs.Laws.{Headline}
-use Rattle.zk_check.specs.declared.status.Status.{Status}
-use Rattle.zk_check.specs.declared.status.Status.TheVariants.{Done, Refused, Words, ReadFault, WriteFault, Memory, NoFile, TooLong, BadFile, Collision}
+use Rattle.cli_text.specs.declared.status.Status.{Status}
+use Rattle.cli_text.specs.declared.status.Status.TheVariants.{Done, Refused, Words, NoFile, TooLong, BadFile}
 use Rattle.zk_check.specs.Words.{Job, check, identify, limit_of, job_of}
 use Rattle.zk_check.specs.Answers.{IsValid, IsHeadlined, IsIdentified, Judged, Identified, AnswersFile, AnswersJob, Answers}
-use Rattle.zk_check.specs.Ends.{OnBytes, OnReceipt, OnElf, IsValidPut, IsIdentifiedPut, Ends, IsPrinted}
+use Rattle.zk_check.specs.Ends.{OnBytes, OnReceipt, OnElf, IsValidPut, IsIdentifiedPut}
 use Rattle.std.specs.Io.KnownBytes.{append_known}
 
 module _ (H : List ℕ → List ℕ) where
@@ -87,17 +87,3 @@ module _ (H : List ℕ → List ℕ) where
     pub done_identified : (taken taken' : Option (List ℕ)) → taken' ≡ append_known taken lines → OnElf (job_of words) told (λ bytes. IsIdentifiedPut H bytes taken taken')
     done_identified taken taken' put =
         on_elf (λ bytes. IsIdentifiedPut H bytes taken taken') (job_of words) told lines answer_done (λ bytes identified. record { lines = lines; identified = identified; put = put })
-
-  -- the whole lines of an answer were put
-  pub ends_printed : (words : List (List ℕ)) (told : Option Files) (status : Status) (lines : List ℕ) (taken taken' : Option (List ℕ)) → Answers H words told status lines
-      → IsPrinted status → taken' ≡ append_known taken lines → Ends H words told status taken taken'
-  ends_printed words told Done lines taken taken' answer printed put = (record { lines = lines; answers = answer }, put)
-  ends_printed words told Refused lines taken taken' answer printed put = (record { lines = lines; answers = answer }, put)
-  ends_printed words told Words lines taken taken' answer printed put = (record { lines = lines; answers = answer }, put)
-  ends_printed words told NoFile lines taken taken' answer printed put = (record { lines = lines; answers = answer }, put)
-  ends_printed words told TooLong lines taken taken' answer printed put = (record { lines = lines; answers = answer }, put)
-  ends_printed words told BadFile lines taken taken' answer printed put = (record { lines = lines; answers = answer }, put)
-  ends_printed words told Collision lines taken taken' answer printed put = (record { lines = lines; answers = answer }, put)
-  ends_printed words told ReadFault lines taken taken' answer printed put = absurd printed
-  ends_printed words told WriteFault lines taken taken' answer printed put = absurd printed
-  ends_printed words told Memory lines taken taken' answer printed put = absurd printed

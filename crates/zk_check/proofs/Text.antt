@@ -1,7 +1,7 @@
 -- The lines of the answer valid as they are written, and as they are defined.
 use Rattle.std.proofs.Common.{◌≡◌, ℕ, List, [], ◌∷◌, ◌++◌, append_assoc}
 use Rattle.std.specs.Prelude.{codes}
-use Rattle.zk_check.specs.Lines.{line}
+use Rattle.cli_text.specs.Lines.{line}
 
 -- the lines that say what was proved, from what they tell
 abbrev pub four : List ℕ → List ℕ → List ℕ → List ℕ → List ℕ

@@ -18,11 +18,12 @@ use Rattle.digest_core.specs.Collisions.{Collides}
 use Rattle.elf_image.specs.declared.stop.ElfStop.{ElfStop}
 use Rattle.elf_image.specs.Tests.{elf_fault}
 use Rattle.elf_image.specs.Loaded.{Loads}
-use Rattle.zk_check.specs.declared.status.Status.{Status}
-use Rattle.zk_check.specs.declared.status.Status.TheVariants.{Done, Refused, Words, NoFile, TooLong, BadFile}
+use Rattle.cli_text.specs.declared.status.Status.{Status}
+use Rattle.cli_text.specs.declared.status.Status.TheVariants.{Done, Refused, Words, NoFile, TooLong, BadFile}
+use Rattle.cli_text.specs.Lines.{no_file_lines, too_long_lines}
+use Rattle.cli_text.specs.BadElf.{bad_elf_lines}
 use Rattle.zk_check.specs.Words.{Job, check, identify, file_of, limit_of, job_of}
-use Rattle.zk_check.specs.Lines.{usage_lines, no_file_lines, too_long_lines, valid_lines, id_lines}
-use Rattle.zk_check.specs.BadElf.{bad_elf_lines}
+use Rattle.zk_check.specs.Lines.{usage_lines, valid_lines, id_lines}
 use Rattle.zk_check.specs.Refusals.{stop_lines}
 
 -- ---- a receipt

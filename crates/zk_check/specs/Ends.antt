@@ -1,35 +1,13 @@
--- What stands after the program: its status, and what the sink took. H is the digest function.
-use Rattle.std.specs.Prelude.{◌≡◌, ◌≤◌, ℕ, List, length, take, Option, None, Some, ⊤}
+-- What a status of 0 tells, and when it has to come. H is the digest function.
+use Rattle.std.specs.Prelude.{◌≡◌, ◌≤◌, ℕ, List, length, Option, None, Some, ⊤}
 use Rattle.std.specs.Io.KnownBytes.{append_known}
 use Rattle.outside.specs.Files.{Files}
 use Rattle.receipt_types.specs.Bundles.{Bundle}
 use Rattle.receipt_types.specs.Spelling.{Spells}
 use Rattle.check_core.specs.Judgement.{Accepts}
-use Rattle.zk_check.specs.declared.status.Status.{Status}
-use Rattle.zk_check.specs.declared.status.Status.TheVariants.{Done, ReadFault, WriteFault, Memory}
 use Rattle.elf_image.specs.Tests.{elf_fault}
 use Rattle.zk_check.specs.Words.{Job, check, identify, limit_of, job_of}
-use Rattle.zk_check.specs.Answers.{Answers, IsValid, IsIdentified}
-
--- an answer's lines were made
-pub record IsAnswered (H : List ℕ → List ℕ) (words : List (List ℕ)) (told : Option Files) (status : Status) : Type 0 where
-  pub lines : List ℕ
-  pub answers : Answers H words told status lines
-
--- after a read fault and want of memory the sink is as before; after a write fault it has a prefix of an answer's lines; and else the whole lines of the status
-abbrev pub Ends : (List ℕ → List ℕ) → List (List ℕ) → Option Files → Status → Option (List ℕ) → Option (List ℕ) → Type 0
-Ends H words told ReadFault taken taken' = taken' ≡ taken
-Ends H words told Memory taken taken' = taken' ≡ taken
-Ends H words told WriteFault taken taken' =
-    (status : Status) × (answer : IsAnswered H words told status) × (k : ℕ) × (taken' ≡ append_known taken (take k answer.lines))
-Ends H words told status taken taken' = (answer : IsAnswered H words told status) × (taken' ≡ append_known taken answer.lines)
-
--- a status of an answer, which is printed
-abbrev pub IsPrinted : Status → Type 0
-IsPrinted ReadFault = ⊥
-IsPrinted WriteFault = ⊥
-IsPrinted Memory = ⊥
-IsPrinted status = ⊤
+use Rattle.zk_check.specs.Answers.{IsValid, IsIdentified}
 
 -- ---- of the file that the words name, as far as the files are told
 abbrev pub OnBytes : Option (List ℕ) → (List ℕ → Type 0) → Type 0
@@ -87,11 +65,3 @@ pub record NamesLoaded (words : List (List ℕ)) (told : Option Files) : Type 0 
   pub held : files elf ≡ Some bytes
   pub within : length bytes ≤ limit_of (identify elf)
   pub passes : elf_fault bytes ≡ None
-
--- the status of what is valid, or of an end that is no answer
-abbrev pub IsDoneOrFails : Status → Type 0
-IsDoneOrFails Done = ⊤
-IsDoneOrFails ReadFault = ⊤
-IsDoneOrFails WriteFault = ⊤
-IsDoneOrFails Memory = ⊤
-IsDoneOrFails status = ⊥

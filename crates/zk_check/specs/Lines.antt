@@ -1,24 +1,11 @@
--- The lines that are printed. A line ends with one line feed; counts are decimal, digests and bytes lower-case hexadecimal.
+-- The lines that this program alone prints. A line ends with one line feed; counts are decimal, digests and bytes lower-case hexadecimal.
 use Rattle.std.specs.Prelude.{ℕ, List, [], ◌∷◌, ◌++◌, length, sum_by, codes, decimal}
 use Rattle.hex.specs.Hex.{encode_lower}
+use Rattle.cli_text.specs.Lines.{line, journal_tail}
 use Rattle.check_core.specs.Reports.{EntryReport, Report}
-
-abbrev pub line : List ℕ → List ℕ
-line text = text ++ 10 ∷ []
 
 abbrev pub usage_lines : List ℕ
 usage_lines = line (codes "usage: zk_check check RECEIPT ID [JOURNALFILE] | audit RECEIPT ENTRY ELF | id ELF | inspect RECEIPT")
-
-abbrev pub no_file_lines : List ℕ → List ℕ
-no_file_lines name = line (codes "no-file " ++ name)
-
-abbrev pub too_long_lines : List ℕ → List ℕ
-too_long_lines name = line (codes "too-long " ++ name)
-
--- the bytes of a journal, where it isn't empty
-abbrev pub journal_tail : List ℕ → List ℕ
-journal_tail [] = []
-journal_tail (byte ∷ bytes) = codes " " ++ encode_lower (byte ∷ bytes)
 
 -- what was proved: exit code, journal and digests of the first entry
 abbrev pub claims_lines : List ℕ → EntryReport → List ℕ

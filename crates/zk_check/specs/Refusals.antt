@@ -1,30 +1,14 @@
 -- The line of each refusal. Values of the machine have eight lower-case hexadecimal digits, counts and indices are decimal.
 use Rattle.std.specs.Prelude.{ℕ, List, [], ◌++◌, codes, decimal}
-use Rattle.std.specs.Int.{w32, to_be_bytes}
 use Rattle.hex.specs.Hex.{encode_lower}
-use Rattle.rv_isa.specs.declared.fault.Fault.{Fault}
-use Rattle.rv_isa.specs.declared.fault.Fault.TheVariants.{Illegal, BadAddress, Misaligned, BadTarget, Break, BadCall, BadArgs, InputEnd}
+use Rattle.cli_text.specs.Lines.{line}
+use Rattle.cli_text.specs.Faults.{hex_word, fault_text}
 use Rattle.seal_replay.specs.declared.stop.ReplayStop.{ReplayStop}
 use Rattle.seal_replay.specs.declared.stop.ReplayStop.TheVariants.{Unopened, Fault as Faults, WordsShort, EndsEarly, WordsLeft, Idle, Memory}
 use Rattle.claim_types.specs.declared.state.State.{State as SystemState}
 use Rattle.check_core.specs.declared.stop.CheckStop.{CheckStop}
 use Rattle.check_core.specs.declared.stop.CheckStop.TheVariants.{Malformed, Version, NotBuilt, WrongImage, Broken, Unjoined, EndInside, NoEnd, LinkCount, BadLink, Memory as NoRoom}
-use Rattle.zk_check.specs.Lines.{line, malformed_lines, version_lines, form_lines, image_lines}
-
--- a word as eight digits
-abbrev pub hex_word : ℕ → List ℕ
-hex_word n = encode_lower (to_be_bytes w32 n)
-
--- why a step can't be done
-abbrev pub fault_text : Fault → List ℕ
-fault_text (Illegal word) = codes "illegal " ++ hex_word word
-fault_text (BadAddress a) = codes "bad-address " ++ hex_word a
-fault_text (Misaligned a) = codes "misaligned " ++ hex_word a
-fault_text (BadTarget a) = codes "bad-target " ++ hex_word a
-fault_text Break = codes "break"
-fault_text (BadCall n) = codes "bad-call " ++ decimal n
-fault_text (BadArgs n) = codes "bad-args " ++ decimal n
-fault_text InputEnd = codes "input-end"
+use Rattle.zk_check.specs.Lines.{malformed_lines, version_lines, form_lines, image_lines}
 
 -- why a seal's replay stops; want of memory is no refusal and has no text
 abbrev pub replay_text : ReplayStop → List ℕ

@@ -2,10 +2,10 @@
 
 use crate::guests::HALTS_7;
 use crate::made::{MadeSeal, receipt};
-use crate::status::Status;
 use crate::top::check_top;
 use byte_cursor::{ByteList, Out, WordList};
 use claim_types::{State, state_digest};
+use cli_text::Status;
 use digest_core::{Digester, ShaDigester};
 use outside::{MemDesk, MemFile, MemFiles, MemSink};
 use receipt_codec::read_bundle;

@@ -1,8 +1,8 @@
 //! Image ids of ELF files.
 
 use crate::asked::answered;
-use crate::status::Status;
 use byte_cursor::{ByteList, Out};
+use cli_text::Status;
 use digest_core::ShaDigester;
 use std::alloc::{AllocError, Global};
 use std::test::Fail;

@@ -1,11 +1,10 @@
 ghost use Rattle.std.specs.Prelude.{IfOk, string_bytes};
 ghost use Rattle.zk_check.specs.Answers.{Judged};
 
-use crate::printed::Printed;
 use crate::refusals::stop_text;
-use crate::status::Status;
 use crate::valid::valid_text;
 use check_core::{CheckStop, check};
+use cli_text::{Printed, Status};
 use digest_core::{Digest, Digester};
 use std::alloc::{AllocError, Global};
 

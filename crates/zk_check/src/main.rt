@@ -13,19 +13,16 @@ mod job;
 mod judging;
 #[cfg(test)]
 mod made;
-mod printed;
 mod refusals;
 #[cfg(test)]
-mod refusals_tests;
-#[cfg(test)]
 mod seals_tests;
-mod status;
 #[cfg(test)]
 mod tests;
 mod top;
+mod usage;
 mod valid;
 
-use crate::status::Status;
+use cli_text::Status;
 use digest_core::ShaDigester;
 use outside::{DirDesk, StdSink};
 use std::env;

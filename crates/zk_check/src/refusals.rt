@@ -1,50 +1,13 @@
-ghost use Rattle.std.specs.Prelude.{◌≡◌, ◌++◌, length, string_bytes, decimal, IfOk};
+ghost use Rattle.std.specs.Prelude.{◌≡◌, string_bytes, IfOk};
 ghost use Rattle.check_core.specs.declared.stop.CheckStop.TheVariants.{WrongImage, Broken, Unjoined, LinkCount, BadLink};
-ghost use Rattle.zk_check.specs.Lines.{journal_tail};
-ghost use Rattle.zk_check.specs.Refusals.{hex_word, fault_text, replay_text, state_text, stop_lines};
+ghost use Rattle.zk_check.specs.Refusals.{replay_text, state_text, stop_lines};
 
-use crate::printed::digits;
 use check_core::CheckStop;
 use claim_types::State;
+use cli_text::{digits, fault_text, hex_word};
 use digest_core::Digest;
-use rv_isa::Fault;
 use seal_replay::ReplayStop;
 use std::alloc::{AllocError, Global};
-
-// A word as eight digits.
-fn hex_word(alloc: Global, value: u32) -> Result<String, AllocError>
-    ensures { IfOk result (λ text. string_bytes text ≡ hex_word value) }
-{
-    hex::encode(alloc, value.to_be_bytes().as_slice())
-}
-
-// Why a step can't be done.
-pub(crate) fn fault_text(alloc: Global, fault: &Fault) -> Result<String, AllocError>
-    ensures { IfOk result (λ text. string_bytes text ≡ fault_text fault.now) }
-{
-    match *fault {
-        Fault::Illegal(word) => {
-            let word = hex_word(alloc, word)?;
-            format!(in alloc; "illegal {word}")
-        }
-        Fault::BadAddress(address) => {
-            let address = hex_word(alloc, address)?;
-            format!(in alloc; "bad-address {address}")
-        }
-        Fault::Misaligned(address) => {
-            let address = hex_word(alloc, address)?;
-            format!(in alloc; "misaligned {address}")
-        }
-        Fault::BadTarget(address) => {
-            let address = hex_word(alloc, address)?;
-            format!(in alloc; "bad-target {address}")
-        }
-        Fault::Break => String::from_str(alloc, "break"),
-        Fault::BadCall(number) => format!(in alloc; "bad-call {number}"),
-        Fault::BadArgs(number) => format!(in alloc; "bad-args {number}"),
-        Fault::InputEnd => String::from_str(alloc, "input-end"),
-    }
-}
 
 // Why a seal's replay stops; nothing where it stops for want of memory.
 fn replay_text(alloc: Global, stop: &ReplayStop) -> Result<String, AllocError>
@@ -164,16 +127,4 @@ fn link_count_text(alloc: Global, entry: u16, calls: u64, links: u32) -> Result<
     ensures { IfOk result (λ text. string_bytes text ≡ stop_lines (LinkCount entry calls links)) }
 {
     format!(in alloc; "refused link-count {entry} {calls} {links}\n")
-}
-
-// A journal's length and, where it isn't empty, its bytes.
-pub(crate) fn journal_text(alloc: Global, bytes: &[u8]) -> Result<String, AllocError>
-    ensures { IfOk result (λ text. string_bytes text ≡ decimal (length bytes.now) ++ journal_tail bytes.now) }
-{
-    let count = bytes.len();
-    if bytes.is_empty() {
-        return format!(in alloc; "{count}");
-    }
-    let digits = hex::encode(alloc, bytes)?;
-    format!(in alloc; "{count} {digits}")
 }

@@ -3,8 +3,8 @@
 use crate::asked::{ID, answered};
 use crate::guests::HALTS_7;
 use crate::made::{MadeSeal, receipt};
-use crate::status::Status;
 use byte_cursor::ByteList;
+use cli_text::Status;
 use digest_core::ShaDigester;
 use std::alloc::{AllocError, Global};
 use std::test::Fail;

@@ -3,8 +3,8 @@
 use crate::asked::{ID, ZEROS, answered, halts_7, own_id};
 use crate::guests::{ASSUMES, CLOSED, HALTS_7, ILLEGAL, OPENS_5, READS_3, SAYS_HELLO};
 use crate::made::{FirstWords, MadeSeal, receipt};
-use crate::status::Status;
 use byte_cursor::Out;
+use cli_text::Status;
 use digest_core::{ShaDigester, WeakDigester, hash};
 use receipt_codec::{read_bundle, write_bundle};
 use std::test::Fail;

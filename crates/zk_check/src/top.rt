@@ -1,16 +1,17 @@
 ghost use Rattle.std.specs.Prelude.{◌≡◌, ◌+◌, ◌≤◌, ◌⊎◌, map, string_bytes, IfOk, IfErr};
 ghost use Rattle.outside.specs.Faults.{Rose};
+ghost use Rattle.cli_text.specs.Ends.{Ends, IsPrinted, IsDoneOrFails};
 ghost use Rattle.zk_check.specs.Words.{job_of};
 ghost use Rattle.zk_check.specs.Views.{job as seen};
 ghost use Rattle.zk_check.specs.Answers.{Answers, AnswersBytes, IsHeadlined};
-ghost use Rattle.zk_check.specs.Ends.{Ends, IsPrinted, IsDoneOrFails, OnReceipt, OnElf, IsValidPut, IsIdentifiedPut, NamesAccepted, NamesLoaded};
+ghost use Rattle.zk_check.specs.Ends.{OnReceipt, OnElf, IsValidPut, IsIdentifiedPut, NamesAccepted, NamesLoaded};
 
 use crate::identifying::identify;
 use crate::job::{Job, parse};
 use crate::judging::judge;
-use crate::printed::Printed;
-use crate::status::Status;
+use crate::usage::usage;
 use check_core::{accepted_unstopped, headline};
+use cli_text::{Printed, Status, or_memory};
 use digest_core::Digester;
 use outside::{Desk, ReadAllStop, Sink, read_all};
 use receipt_codec::spelling_laws;
@@ -43,7 +44,7 @@ pub fn check_top<D: Digester, K: Desk, O: Sink>(
     ensures loaded { NamesLoaded (map string_bytes words.now) (K.contents desk.old) → IsDoneOrFails result }
 
     // The status and the lines are those of an answer, but for a fault and want of memory.
-    ensures answer { Ends D.digest_of (map string_bytes words.now) (K.contents desk.old) result (O.taken out.old) (O.taken out.new) }
+    ensures answer { Ends (Answers D.digest_of (map string_bytes words.now) (K.contents desk.old)) result (O.taken out.old) (O.taken out.new) }
     ensures read_fault { result ≡ Status.ReadFault → Rose (K.read_faults desk.old) (K.read_faults desk.new) }
     ensures write_fault { result ≡ Status.WriteFault → Rose (O.faults out.old) (O.faults out.new) }
 
@@ -75,7 +76,7 @@ fn answer<D: Digester, K: Desk>(
     ensures files { K.contents desk.new ≡ K.contents desk.old }
 {
     let Some(job) = parse(words) else {
-        return or_memory(Printed::usage(alloc));
+        return or_memory(usage(alloc));
     };
     match read_all(alloc, desk, job.file(), job.limit()) {
         Ok(bytes) => or_memory(answer_bytes::<D>(alloc, &job, bytes.as_slice())),
@@ -93,16 +94,5 @@ fn answer_bytes<D: Digester>(alloc: Global, job: &Job, bytes: &[u8]) -> Result<P
     match job {
         Job::Check { id, .. } => judge::<D>(alloc, bytes, id),
         Job::Id { .. } => identify::<D>(alloc, bytes),
-    }
-}
-
-// An answer, or the status of want of memory.
-fn or_memory(printed: Result<Printed, AllocError>) -> Result<Printed, Status>
-    ensures ok { IfOk result (λ made. printed ≡ Ok made) }
-    ensures err { IfErr result (λ status. status ≡ Status.Memory) }
-{
-    match printed {
-        Ok(printed) => Ok(printed),
-        Err(_) => Err(Status::Memory),
     }
 }

@@ -2,9 +2,8 @@
 ghost use Rattle.std.specs.Prelude.{◌≡◌, string_bytes, sum_by, IfOk};
 ghost use Rattle.zk_check.specs.Lines.{claims_lines, counts_lines, valid_lines};
 
-use crate::printed::digits;
-use crate::refusals::journal_text;
 use check_core::{EntryClaim, Report};
+use cli_text::{digits, journal_text};
 use std::alloc::{AllocError, Global};
 
 // The lines of a report.

@@ -1,6 +1,6 @@
 use Rattle.std.proofs.Common.{◌∙◌, List, ℕ, ◌++◌, ap, append_assoc}
 use Rattle.std.specs.Prelude.{codes, decimal}
-use Rattle.zk_check.specs.Lines.{line}
+use Rattle.cli_text.specs.Lines.{line}
 use Rattle.std.proofs.lemmas.Result.{IfOk-weaker}
 use Rattle.zk_check.proofs.refusals.broken_text.Goals as goal
 

@@ -1,7 +1,7 @@
 use Rattle.std.proofs.Common.{◌∙◌, List, ℕ, ◌++◌, ap₂, append_assoc}
 use Rattle.std.specs.Prelude.{codes, decimal}
 use Rattle.std.proofs.lemmas.Result.{IfOk-weaker}
-use Rattle.zk_check.specs.Lines.{line}
+use Rattle.cli_text.specs.Lines.{line}
 use Rattle.zk_check.proofs.refusals.unjoined_text.Goals as goal
 
 pub returns : goal.returns

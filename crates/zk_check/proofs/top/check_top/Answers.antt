@@ -1,7 +1,9 @@
 use Rattle.std.proofs.Common.{ℕ, List, take, ap, ◌∙◌, map}
 use Rattle.std.specs.Io.KnownBytes.{append_known}
 use Rattle.std.specs.Prelude.{string_bytes}
-use Rattle.zk_check.proofs.Ended.{done_valid, done_headlined, done_identified, ends_printed}
+use Rattle.zk_check.specs.Answers.{Answers}
+use Rattle.zk_check.proofs.Ended.{done_valid, done_headlined, done_identified}
+use Rattle.cli_text.proofs.Ended.{ends_printed}
 use Rattle.zk_check.proofs.Accepting.{accepted_ends, loaded_ends}
 use Rattle.zk_check.proofs.top.check_top.Goals as goal
 
@@ -33,7 +35,7 @@ returns-in-Ok-put-clause-accepted g c =
 
 pub returns-in-Ok-put-clause-answer : goal.returns-in-Ok-put-clause-answer
 returns-in-Ok-put-clause-answer g c =
-    ends_printed g.D.Digester.digest_of (map string_bytes c.args.words.now) (g.K.Desk.contents c.args.desk.now)
+    ends_printed (Answers g.D.Digester.digest_of (map string_bytes c.args.words.now) (g.K.Desk.contents c.args.desk.now))
     c.in-Ok.printed.status (string_bytes c.in-Ok.printed.text) _ _ c.in-Ok.ensures.answer c.in-Ok.ensures.printed
     (c.in-Ok-put.ensures.told ∙ ap (append_known (g.O.Sink.taken c.args.out.now)) c.as_bytes.ensures.value)
 

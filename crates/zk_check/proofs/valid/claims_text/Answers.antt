@@ -2,7 +2,8 @@ use Rattle.std.proofs.Common.{◌≡◌, ◌∙◌, List, ℕ, ◌++◌, length,
 use Rattle.std.specs.Prelude.{decimal, string_bytes}
 use Rattle.std.proofs.lemmas.Result.{IfOk-weaker}
 use Rattle.check_core.specs.Reports.{EntryReport}
-use Rattle.zk_check.specs.Lines.{journal_tail, claims_lines}
+use Rattle.cli_text.specs.Lines.{journal_tail}
+use Rattle.zk_check.specs.Lines.{claims_lines}
 use Rattle.zk_check.proofs.Text.{four, four_text, four_lines}
 use Rattle.zk_check.proofs.valid.claims_text.Goals as goal
 

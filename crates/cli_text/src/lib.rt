@@ -1,0 +1,19 @@
+//! What a program over receipts and guest files prints: the status and the lines of an answer, the texts of digests,
+//! words, faults, journals and ELF files' tests, and what stands after the program.
+#![tactic(auto)]
+
+mod bad_elf;
+mod faults;
+mod hexadecimal;
+mod journals;
+mod printed;
+mod status;
+#[cfg(test)]
+mod tests;
+
+pub use bad_elf::elf_text;
+pub use faults::fault_text;
+pub use hexadecimal::{digits, hex_word};
+pub use journals::journal_text;
+pub use printed::{Printed, or_memory};
+pub use status::Status;

@@ -1,0 +1,69 @@
+//! The texts of faults, and the lines of the answers without a result.
+
+use crate::faults::fault_text;
+use crate::journals::journal_text;
+use crate::printed::{Printed, or_memory};
+use crate::status::Status;
+use elf_image::ElfStop;
+use rv_isa::Fault;
+use std::test::Fail;
+
+#[test]
+fn each_fault_has_its_text(rt: HostRuntime) -> Result<(), Fail> {
+    let table = [
+        (Fault::Illegal(0xFFFF_00AB), "illegal ffff00ab"),
+        (Fault::BadAddress(0x0FFF_FC00), "bad-address 0ffffc00"),
+        (Fault::Misaligned(0x1002), "misaligned 00001002"),
+        (Fault::BadTarget(0xFFFF_FFFE), "bad-target fffffffe"),
+        (Fault::Break, "break"),
+        (Fault::BadCall(4), "bad-call 4"),
+        (Fault::BadArgs(2), "bad-args 2"),
+        (Fault::InputEnd, "input-end"),
+    ];
+    for (fault, wanted) in &table {
+        let text = fault_text(rt.alloc(), fault)?;
+        assert_eq!(rt; text.as_str(), *wanted);
+    }
+    Ok(())
+}
+
+#[test]
+fn each_answer_has_its_status_and_line(rt: HostRuntime) -> Result<(), Fail> {
+    let alloc = rt.alloc();
+    let table = [
+        (
+            Printed::no_file(alloc, "a/b"),
+            Status::NoFile,
+            6,
+            "no-file a/b\n",
+        ),
+        (
+            Printed::too_long(alloc, "a/b"),
+            Status::TooLong,
+            7,
+            "too-long a/b\n",
+        ),
+        (
+            Printed::bad_elf(alloc, ElfStop::Overlap),
+            Status::BadFile,
+            8,
+            "bad elf 14 overlap\n",
+        ),
+    ];
+    for (made, status, number, text) in table {
+        let printed = or_memory(made).map_err(|_| "want of memory")?;
+        assert_eq!(rt; printed.status, status);
+        assert_eq!(rt; printed.status.number(), number);
+        assert_eq!(rt; printed.text.as_str(), text);
+    }
+    Ok(())
+}
+
+#[test]
+fn a_journal_has_its_length_and_its_bytes(rt: HostRuntime) -> Result<(), Fail> {
+    let empty = journal_text(rt.alloc(), b"")?;
+    assert_eq!(rt; empty.as_str(), "0");
+    let hello = journal_text(rt.alloc(), b"Hello")?;
+    assert_eq!(rt; hello.as_str(), "5 48656c6c6f");
+    Ok(())
+}

@@ -1,0 +1,68 @@
+-- A whole memory as a map of pages, with the registers written into it.
+use Rattle.std.proofs.Common.{◌≡◌, ℕ, zero, suc, ◌+◌, ◌-◌, ◌*◌, ◌/◌, ◌%◌, ◌<◌, ◌≤◌, List, [], ◌∷◌, get_or, length, take, drop, Option, None, refl, sym, ap, ◌∙◌, arith, ⊎_elim}
+use Rattle.std.specs.Prelude.{replicate, unwrap_or}
+use Rattle.std.proofs.lemmas.Bool.Decides.{leb_tells}
+use Rattle.std.proofs.Math.Seq.{take-length}
+use Rattle.page_core.specs.Memory.{top, put, bytes_of, bytes_of_words}
+use Rattle.page_core.specs.Pages.{zero_page}
+use Rattle.page_core.specs.Stored.{Stored, stored_at, memory_of}
+use Rattle.rv_step.specs.Machine.{full_of}
+use Rattle.rv_step.proofs.Words.{word_put, none_put}
+use Rattle.flat_machine.specs.Layers.{Layers, layered, memory_in}
+
+-- ---- the pages
+-- the pages below n are in the map, and no others
+pub record ArePut (m : Layers) (map : Stored) (n : ℕ) : Type 0 where
+  pub below : (k : ℕ) → k < n → stored_at map k ≡ layered m k
+  pub others : (k : ℕ) → n ≤ k → stored_at map k ≡ None
+
+get_or-zeros : (n k : ℕ) → get_or {A = ℕ} (replicate n 0) k 0 ≡ 0
+get_or-zeros zero k = refl
+get_or-zeros (suc n) zero = refl
+get_or-zeros (suc n) (suc k) = get_or-zeros n k
+
+zero_byte : (k : ℕ) → get_or zero_page k 0 ≡ 0
+unfolding zero_page
+zero_byte k = get_or-zeros 1024 k
+
+-- all pages of a memory that is zero from its end on
+pub put_all : (m : Layers) (map : Stored) (n : ℕ) → n ≡ 262144 → ArePut m map n → ((a : ℕ) → 268435456 ≤ a → memory_in m a ≡ 0) → (a : ℕ) → memory_of map a ≡ memory_in m a
+put_all m map n all are rest a =
+    ⊎_elim
+    (λ far.
+    ap (λ (o : Option (List ℕ)). get_or (unwrap_or o zero_page) (a % 1024) 0) (are.others (a / 1024) (omega (arith, far.1, all)))
+    ∙ zero_byte (a % 1024) ∙ sym (rest a (omega (arith, far.1))))
+    (λ near. ap (λ (o : Option (List ℕ)). get_or (unwrap_or o zero_page) (a % 1024) 0) (are.below (a / 1024) (omega (arith, near.1, all))))
+    (leb_tells 262144 (a / 1024))
+
+-- ---- the registers
+-- the registers from x1 to that before n are written into a memory
+pub record AreWritten (m : ℕ → ℕ) (map : Stored) (x : List ℕ) (n : ℕ) : Type 0 where
+  pub written : (a : ℕ) → memory_of map a ≡ put m (top + 4) (bytes_of_words (take (n - 1) (drop 1 x))) a
+
+pub written_none : (map : Stored) (x : List ℕ) → AreWritten (memory_of map) map x 1
+written_none map x = record { written = λ a. ap (λ (n : ℕ → ℕ). n a) (none_put (memory_of map) (top + 4)) }
+
+pub written_next : (m : ℕ → ℕ) (mid new : Stored) (x : List ℕ) (n v at : ℕ) → AreWritten m mid x n → 1 ≤ n → n < 32 → length x ≡ 32
+    → v ≡ get_or x n 0 → at ≡ top + 4 * n → ((a : ℕ) → memory_of new a ≡ put (memory_of mid) at (bytes_of 4 v) a) → AreWritten m new x (n + 1)
+written_next m mid new [] n v at before some low size is there after = absurd (omega (arith, size))
+written_next m mid new (y ∷ x) zero v at before some low size is there after = absurd (omega arith)
+written_next m mid new (y ∷ x) (suc k) v at before some low size is there after =
+    let this : suc k - 1 ≡ k = omega arith in
+    let next : suc k + 1 - 1 ≡ suc k = omega arith in
+    let so_far : memory_of mid ≡ put m (top + 4) (bytes_of_words (take (suc k - 1) x)) = λ i a. before.written a i in
+    let more : memory_of new ≡ put (memory_of mid) at (bytes_of 4 v) = λ i a. after a i in
+    record {
+      written = λ a.
+          ap (λ (n : ℕ → ℕ). n a)
+          (word_put m (memory_of mid) (memory_of new) (top + 4) at k v x (omega (arith, size)) (omega (arith, there)) is
+          (so_far ∙ ap (λ (j : ℕ). put m (top + 4) (bytes_of_words (take j x))) this) more
+          ∙ ap (λ (j : ℕ). put m (top + 4) (bytes_of_words (take j x))) (sym next));
+    }
+
+pub written_all : (m : ℕ → ℕ) (map : Stored) (x : List ℕ) (n : ℕ) → n ≡ 32 → AreWritten m map x n → length x ≡ 32 → (a : ℕ) → memory_of map a ≡ full_of m x a
+unfolding full_of
+written_all m map [] n all are size a = absurd (omega (arith, size))
+written_all m map (y ∷ x) n all are size a =
+    let rest : n - 1 ≡ length x = omega (arith, size, all) in
+    are.written a ∙ ap (λ (xs : List ℕ). put m (top + 4) (bytes_of_words xs) a) (ap (λ (j : ℕ). take j x) rest ∙ take-length x)

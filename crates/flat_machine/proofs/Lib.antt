@@ -1,0 +1,5 @@
+pub mod FullMap
+pub mod Layered
+pub mod RunFeet
+pub mod RunPaid
+pub mod RunSteps

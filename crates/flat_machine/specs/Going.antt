@@ -1,0 +1,60 @@
+-- An uncut run that is under way.
+use Rattle.std.specs.Prelude.{◌≡◌, ℕ, ◌-◌, ◌*◌, ◌%◌, ◌≤◌, List, Option, Some, None}
+use Rattle.host_calls.specs.declared.call.AssumeCall.{AssumeCall}
+use Rattle.page_core.specs.Images.{Image}
+use Rattle.rv_step.specs.Machine.{State, Halted, step_of}
+use Rattle.rv_step.specs.Runs.{start, after, spent, IsOutcome, steps_done}
+use Rattle.rv_step.specs.declared.outcome.Outcome.{Outcome}
+use Rattle.flat_machine.specs.Layers.{Layers, memory_in}
+
+-- where it is, what it has said, how many steps it did and what they cost, and with which code the last one halted, if it did
+pub record Going : Type 0 where
+  pub pc : ℕ
+  pub x : List ℕ
+  pub memory : Layers
+  pub words : List ℕ
+  pub journal : List ℕ
+  pub calls : List AssumeCall
+  pub steps : ℕ
+  pub cycles : ℕ
+  pub halted : Option ℕ
+
+-- the state that it is in; a halt changes none
+abbrev pub state_of : Going → State
+state_of g = record { pc = g.pc; x = g.x; memory = memory_in g.memory; words = g.words; journal = g.journal; calls = g.calls }
+
+-- how many of its steps went: all but the one that halted
+abbrev pub gone_in : ℕ → Option ℕ → ℕ
+gone_in steps None = steps
+gone_in steps (Some code) = steps - 1
+
+abbrev pub gone : Going → ℕ
+gone g = gone_in g.steps g.halted
+
+abbrev pub HaltsWith : State → ℕ → Option ℕ → Type 0
+HaltsWith s steps None = Unit {0}
+HaltsWith s steps (Some code) = (1 ≤ steps) × (step_of s ≡ Halted code)
+
+-- the pc is aligned, and each step cost 1 to 257
+pub record IsGoing (g : Going) : Type 0 where
+  pub aligned : g.pc % 4 ≡ 0
+  pub least : g.steps ≤ g.cycles
+  pub most : g.cycles ≤ 257 * g.steps
+
+-- and its memory is zero from 2 ^ 28 on
+pub record IsUncut (g : Going) : Type 0 where
+  pub going : IsGoing g
+  pub rest : (a : ℕ) → 268435456 ≤ a → memory_in g.memory a ≡ 0
+
+-- it is the run of an image and input words, after so many steps
+pub record Stands (g : Going) (image : Image) (words : List ℕ) : Type 0 where
+  pub reached : after (start image words) (gone g) ≡ Some (state_of g)
+  pub cost : g.cycles ≡ spent (start image words) g.steps
+  pub halts : HaltsWith (state_of g) g.steps g.halted
+
+-- the run of an image and words ends so under a limit, and this is that run, after the steps that were done by then
+pub record EndsSo (g : Going) (image : Image) (words : List ℕ) (limit : ℕ) (outcome : Outcome) : Type 0 where
+  pub stands : Stands g image words
+  pub ends : IsOutcome (start image words) limit outcome
+  pub reached : gone g ≡ ends.step
+  pub steps : g.steps ≡ steps_done ends.step outcome

@@ -1,0 +1,264 @@
+ghost use Rattle.std.specs.Prelude.{◌≡◌, ◌≢◌, ◌+◌, ◌-◌, ◌^◌, ◌<◌, ◌≤◌, ℕ, List, IsTrue, IsFalse, None, IfOk, OnOk, OnErr, IfSome, IfNone};
+ghost use Rattle.page_core.specs.Images.{Image as PlainImage};
+ghost use Rattle.page_core.specs.Stored.{memory_of};
+ghost use Rattle.elf_image.specs.Loaded.{image_of};
+ghost use Rattle.rv_step.specs.Machine.{full, full_of};
+ghost use Rattle.rv_step.specs.Runs.{start, after};
+ghost use Rattle.flat_machine.specs.Going.{state_of, gone, Stands, EndsSo};
+
+use crate::memory::FlatMemory;
+use byte_cursor::{ByteList, WordList};
+use elf_image::Image;
+use host_calls::CallList;
+use page_core::{PAGES, PageMap, TOP};
+use rv_isa::Regs;
+use rv_step::{Core, Event, Outcome, RunLog, StepStop, WordTape, step_within};
+use std::alloc::{AllocError, Global};
+use std::marker::Model;
+
+// The most that one step costs.
+const MOST_CYCLES: u64 = 257;
+
+/// The uncut run of an image and input words, and how far it is. Contracts see its state, how many steps it did, what
+/// they cost, and the exit code if the last one halted; `Stands` says that this is the run of an image and words.
+///
+/// A call that is refused for want of memory leaves it after some steps of the same run, and may be repeated.
+#[derive(Drop)]
+pub struct Flat {
+    core: Core,
+    memory: FlatMemory,
+    tape: WordTape,
+    log: RunLog,
+    steps: u64,
+    cycles: u64,
+    halted: Option<u32>,
+    alloc: Global,
+}
+
+impl Model for Flat {
+    ghost use Rattle.std.specs.Prelude.{drop};
+    ghost use Rattle.flat_machine.specs.Going.{Going, IsUncut};
+
+    ghost Value = { Going };
+
+    ghost view = { λ f.
+        record {
+          pc = f.core.pc;
+          x = f.core.regs;
+          memory = f.memory;
+          words = drop f.tape.used f.tape.words;
+          journal = f.log.journal;
+          calls = f.log.calls;
+          steps = f.steps;
+          cycles = f.cycles;
+          halted = f.halted;
+        } };
+
+    ghost invariant = { λ f.
+        IsUncut
+        (record {
+          pc = f.core.pc;
+          x = f.core.regs;
+          memory = f.memory;
+          words = drop f.tape.used f.tape.words;
+          journal = f.log.journal;
+          calls = f.log.calls;
+          steps = f.steps;
+          cycles = f.cycles;
+          halted = f.halted;
+        }) };
+}
+
+// Writes the words of x1 to x31 into the register page.
+fn write_registers(map: &mut PageMap, regs: Regs) -> Result<(), AllocError>
+    ensures { OnOk result ((a : ℕ) → memory_of map.new a ≡ full_of (memory_of map.old) regs a) }
+{
+    for n in 1..32u8 {
+        map.set_word(TOP + 4 * u32::from(n), regs.get(n))?;
+    }
+    Ok(())
+}
+
+impl Flat {
+    /// The run of an image and input words, at its start. It takes no memory.
+    pub fn new(alloc: Global, image: Image, words: WordList) -> Flat
+        ensures start { result.steps ≡ 0 }
+        ensures stands { Stands result (image_of image) words.items }
+    {
+        Flat {
+            core: Core {
+                pc: image.entry,
+                regs: Regs::new(),
+            },
+            memory: FlatMemory::new(alloc, image.map),
+            tape: WordTape::new(words),
+            log: RunLog::new(alloc),
+            steps: 0,
+            cycles: 0,
+            halted: None,
+            alloc,
+        }
+    }
+
+    /// Runs to the outcome under a limit on the cost of all steps from the start, which the steps so far keep. After an
+    /// outcome it answers the same for the same limit, and goes on from OverLimit for a greater one.
+    pub fn run(&mut self, limit: u64) -> Result<Outcome, AllocError>
+        requires { self.old.cycles ≤ limit }
+        ensures stands { (image : PlainImage) (words : List ℕ) → Stands self.old image words → Stands self.new image words }
+        ensures outcome { IfOk result (λ outcome. (image : PlainImage) (words : List ℕ) → Stands self.old image words → EndsSo self.new image words limit outcome) }
+        ensures within { self.new.cycles ≤ limit }
+        ensures more { self.old.steps ≤ self.new.steps }
+    {
+        self.memory.lift_pages()?;
+        loop {
+            if let Some(outcome) = self.turn(limit)? {
+                return Ok(outcome);
+            }
+        }
+    }
+
+    // Does one step within the limit, or tells the outcome.
+    fn turn(&mut self, limit: u64) -> Result<Option<Outcome>, AllocError>
+        requires { self.old.cycles ≤ limit }
+        ensures stands { (image : PlainImage) (words : List ℕ) → Stands self.old image words → Stands self.new image words }
+        ensures within { self.new.cycles ≤ limit }
+        ensures went { IfOk result (λ ended. IfNone ended (self.old.cycles < self.new.cycles)) }
+        ensures ended { IfOk result (λ ended. IfSome ended (λ outcome. (image : PlainImage) (words : List ℕ) → Stands self.old image words → EndsSo self.new image words limit outcome)) }
+        ensures more { self.old.steps ≤ self.new.steps }
+    {
+        if let Some(code) = self.halted {
+            return Ok(Some(Outcome::Halted(code)));
+        }
+        let room = limit - self.cycles;
+        match step_within(
+            &mut self.core,
+            &mut self.memory,
+            &mut self.tape,
+            &mut self.log,
+            room,
+        ) {
+            Ok(Some(paid)) => {
+                self.steps += 1;
+                self.cycles += u64::from(paid.cost);
+                match paid.event {
+                    Event::Went => Ok(None),
+                    Event::Halted(code) => {
+                        self.halted = Some(code);
+                        Ok(Some(Outcome::Halted(code)))
+                    }
+                }
+            },
+            Ok(None) => Ok(Some(Outcome::OverLimit { step: self.steps })),
+            Err(StepStop::Fault(fault)) => Ok(Some(Outcome::Faulted {
+                fault,
+                pc: self.core.pc,
+                step: self.steps,
+            })),
+            Err(StepStop::Memory) => Err(AllocError),
+            Err(StepStop::Miss(_)) => unreachable!(),
+        }
+    }
+
+    /// Does the next steps as long as they go, at most `steps` of them, with no limit on their cost, and tells how many
+    /// it did. A step that halts or faults isn't done by it; after a halt it does none.
+    pub fn go(&mut self, steps: u64) -> Result<u64, AllocError>
+        requires { self.old.steps + steps ≤ 2 ^ 48 }
+        ensures stands { (image : PlainImage) (words : List ℕ) → Stands self.old image words → Stands self.new image words }
+        ensures done { IfOk result (λ done. self.new.steps ≡ self.old.steps + done) }
+        ensures bound { self.new.steps ≤ self.old.steps + steps }
+        ensures most { IfOk result (λ done. done < steps → (image : PlainImage) (words : List ℕ) → Stands self.old image words → after (start image words) (gone self.new + 1) ≡ None) }
+        ensures halted { self.new.halted ≡ self.old.halted }
+    {
+        self.memory.lift_pages()?;
+        for done in 0..steps {
+            if !self.go_on()? {
+                return Ok(done);
+            }
+        }
+        Ok(steps)
+    }
+
+    // Does the next step, if it goes, and tells whether it did.
+    fn go_on(&mut self) -> Result<bool, AllocError>
+        requires { self.old.steps < 2 ^ 48 }
+        ensures stands { (image : PlainImage) (words : List ℕ) → Stands self.old image words → Stands self.new image words }
+        ensures went { IfOk result (λ went. IsTrue went → self.new.steps ≡ self.old.steps + 1) }
+        ensures stays { IfOk result (λ went. IsFalse went → (self.new.steps ≡ self.old.steps)
+            × ((image : PlainImage) (words : List ℕ) → Stands self.old image words → after (start image words) (gone self.new + 1) ≡ None)) }
+        ensures refused { OnErr result (self.new.steps ≡ self.old.steps) }
+        ensures halted { self.new.halted ≡ self.old.halted }
+    {
+        if self.halted.is_some() {
+            return Ok(false);
+        }
+        match step_within(
+            &mut self.core,
+            &mut self.memory,
+            &mut self.tape,
+            &mut self.log,
+            MOST_CYCLES,
+        ) {
+            Ok(Some(paid)) => match paid.event {
+                Event::Went => {
+                    self.steps += 1;
+                    self.cycles += u64::from(paid.cost);
+                    Ok(true)
+                }
+                Event::Halted(_) => Ok(false),
+            },
+            Ok(None) => unreachable!(),
+            Err(StepStop::Fault(_)) => Ok(false),
+            Err(StepStop::Memory) => Err(AllocError),
+            Err(StepStop::Miss(_)) => unreachable!(),
+        }
+    }
+
+    /// The pc of the state that it is in.
+    pub fn pc(&self) -> u32
+        ensures { result ≡ self.now.pc }
+    {
+        self.core.pc
+    }
+
+    /// The memory of the state that it is in, with the registers in the register page.
+    pub fn full(&self) -> Result<PageMap, AllocError>
+        ensures { IfOk result (λ map. (a : ℕ) → memory_of map a ≡ full (state_of self.now) a) }
+    {
+        let mut map = PageMap::new(self.alloc);
+        for number in 0..PAGES {
+            if let Some(page) = self.memory.page(number) {
+                map.put_page(number, page)?;
+            }
+        }
+        write_registers(&mut map, self.core.regs)?;
+        Ok(map)
+    }
+
+    /// What it has written to its journal.
+    pub fn journal(&self) -> &ByteList
+        ensures { result.now.items ≡ self.now.journal }
+    {
+        &self.log.journal
+    }
+
+    /// The assumptions that it has called for, in their order.
+    pub fn calls(&self) -> &CallList
+        ensures { result.now.items ≡ self.now.calls }
+    {
+        &self.log.calls
+    }
+
+    /// How many steps it did, the one that halts among them.
+    pub fn steps(&self) -> u64
+        ensures { result ≡ self.now.steps }
+    {
+        self.steps
+    }
+
+    /// What they cost.
+    pub fn cycles(&self) -> u64
+        ensures { result ≡ self.now.cycles }
+    {
+        self.cycles
+    }
+}

@@ -1,0 +1,9 @@
+//! The uncut run of a guest: one memory, one list of input words, no cuts, one thread.
+#![tactic(auto)]
+
+mod flat;
+mod memory;
+#[cfg(test)]
+mod tests;
+
+pub use flat::Flat;

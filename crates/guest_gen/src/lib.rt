@@ -1,0 +1,10 @@
+//! Guests that are assembled: the ELF file of a list of instructions.
+#![tactic(auto)]
+
+mod assembling;
+mod line;
+#[cfg(test)]
+mod tests;
+
+pub use assembling::assemble;
+pub use line::GuestLine;

@@ -1,0 +1,5 @@
+pub mod Inputs
+pub mod Limits
+pub mod Printing
+pub mod Told
+pub mod Answered
