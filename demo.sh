@@ -34,8 +34,8 @@ show 1 out/zk_check check "$receipt" "$other"
 (ulimit -v 20000; show 1 out/zk_check check data/claims.receipt "$id") || exit 1
 
 cd ../zk_prove || exit 1
-printf '$ rt run\n'
-rt run >"$log" 2>&1 || { cat "$log"; exit 1; }
+printf '$ rt run -- exec data/halts_7.elf data/empty 100\n'
+rt run -- exec data/halts_7.elf data/empty 100 >"$log" 2>&1 || { cat "$log"; exit 1; }
 pair=$(mktemp)
 trap 'rm -f "$log" "$pair"' EXIT
 printf '\057\004\000\000\316\001\000\000' >"$pair"
