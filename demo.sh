@@ -1,7 +1,8 @@
 #!/bin/bash
 # Builds zk_check and zk_prove, prints the image id of a guest, checks a receipt under this id and under another one, and
 # then 36 bytes that claim 16,777,216 input words, in 20 MB of address space: room is made for the words that are there
-# alone. Runs a guest that was written in C on the words 1071 and 462.
+# alone. Runs a guest that was written in C on the words 1071 and 462, proves that run, and checks its receipt under the
+# guest's image id; and then the receipt with one byte changed, so that it claims one step more.
 set -u
 cd "$(dirname "$0")/crates/zk_check" || exit 1
 
@@ -36,8 +37,19 @@ show 1 out/zk_check check "$receipt" "$other"
 cd ../zk_prove || exit 1
 printf '$ rt run -- exec data/halts_7.elf data/empty 100\n'
 rt run -- exec data/halts_7.elf data/empty 100 >"$log" 2>&1 || { cat "$log"; exit 1; }
+guest=../../examples/guests/gcd.elf
+check=../zk_check/out/zk_check
 pair=$(mktemp)
-trap 'rm -f "$log" "$pair"' EXIT
+made=$(mktemp)
+trap 'rm -f "$log" "$pair" "$made"' EXIT
 printf '\057\004\000\000\316\001\000\000' >"$pair"
-show 0 out/zk_prove exec ../../examples/guests/gcd.elf "$pair" 1000
-show 1 out/zk_prove exec ../../examples/guests/gcd.elf "$pair" 10
+show 0 out/zk_prove exec "$guest" "$pair" 1000
+show 1 out/zk_prove exec "$guest" "$pair" 10
+show 0 out/zk_prove prove "$guest" "$pair" "$made" 1048576 1024 16777216 0
+show 0 "$check" id "$guest"
+id=$("$check" id "$guest" | cut -d ' ' -f 2)
+show 0 "$check" check "$made" "$id"
+
+# The number of steps of the first seal stands at byte 20.
+printf '\041' | dd of="$made" bs=1 seek=20 conv=notrunc 2>/dev/null
+show 1 "$check" check "$made" "$id"

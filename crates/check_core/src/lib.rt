@@ -16,4 +16,5 @@ pub use laws::{
     accepted_unstopped, calls_hold, faithful_vouches, hashed_are_bytes, headline, headline_of_sha,
 };
 pub use report::{ClaimList, EntryClaim, Report};
+pub use reporting::entry_report;
 pub use stop::CheckStop;

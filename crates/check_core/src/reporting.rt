@@ -1,4 +1,4 @@
-//! What is reported of an accepted bundle of one entry.
+//! What is reported of an accepted bundle, and of each of its entries.
 ghost use Rattle.std.specs.Prelude.{◌≡◌, ◌≤◌, ◌*◌, [], ◌∷◌, length, map, IfOk};
 ghost use Rattle.std.specs.Arc.{arc_value};
 ghost use Rattle.receipt_types.specs.Limits.{AllSealLimits};
@@ -30,8 +30,9 @@ pub(crate) fn report_of<D: Digester>(
     })
 }
 
-// The report of an entry, whose seals have this claim.
-fn entry_report<D: Digester>(
+/// The report of an entry that has at most 65,535 seals, each within the limits of a receipt, where this is the claim of
+/// their chain. An AllocError is want of memory.
+pub fn entry_report<D: Digester>(
     alloc: Global,
     entry: &Entry,
     claim: &SpanClaim,

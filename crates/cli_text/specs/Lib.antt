@@ -2,4 +2,5 @@ pub mod Numbers
 pub mod Lines
 pub mod BadElf
 pub mod Faults
+pub mod Reports
 pub mod Ends

@@ -1,11 +1,16 @@
-//! The texts of faults, and the lines of the answers without a result.
+//! The texts of faults, reports and journals, and the lines of the answers without a result.
 
 use crate::faults::fault_text;
 use crate::journals::journal_text;
 use crate::printed::{Printed, or_memory};
+use crate::reports::{proved_text, valid_text};
 use crate::status::Status;
+use byte_cursor::{ByteList, ItemList};
+use check_core::{ClaimList, EntryClaim, Report};
+use digest_core::Digest;
 use elf_image::ElfStop;
 use rv_isa::Fault;
+use std::alloc::{AllocError, Global};
 use std::test::Fail;
 
 #[test]
@@ -65,5 +70,45 @@ fn a_journal_has_its_length_and_its_bytes(rt: HostRuntime) -> Result<(), Fail> {
     assert_eq!(rt; empty.as_str(), "0");
     let hello = journal_text(rt.alloc(), b"Hello")?;
     assert_eq!(rt; hello.as_str(), "5 48656c6c6f");
+    Ok(())
+}
+
+// A report of one entry, whose digests are these bytes each.
+fn report(alloc: Global, journal: &[u8], claim: u8, conditional: u8) -> Result<Report, AllocError> {
+    let mut bytes = ByteList::new(alloc);
+    bytes.extend(journal)?;
+    let mut entries = ClaimList::new(alloc);
+    entries.push(EntryClaim {
+        image: Digest::of(&[0; 32]),
+        exit: 4_294_967_295,
+        journal_bytes: journal.len() as u64,
+        journal_digest: Digest::of(&[0; 32]),
+        conditional: Digest::of(&[conditional; 32]),
+        claim: Digest::of(&[claim; 32]),
+        calls: 0,
+        seals: 2,
+        steps: 70,
+        links: ItemList::new(alloc),
+    })?;
+    Ok(Report {
+        journal: bytes,
+        entries,
+    })
+}
+
+#[test]
+fn a_report_has_its_lines(rt: HostRuntime) -> Result<(), Fail> {
+    let alloc = rt.alloc();
+    let made = report(alloc, b"Hello", 0x0F, 0xA5)?;
+    let lines =
+        "exit 4294967295\njournal 5 48656c6c6f\nclaim 0f0f0f0f0f0f0f0f0f0f0f0f0f0f0f0f0f0f0f0f0f0f0f0f0f0f0f0f0f0f0f0f\nconditional a5a5a5a5a5a5a5a5a5a5a5a5a5a5a5a5a5a5a5a5a5a5a5a5a5a5a5a5a5a5a5a5\nentries 1\nseals 2\nsteps 70\n";
+    let valid = valid_text(alloc, &made)?;
+    assert_eq!(rt; valid.as_str().strip_prefix("valid\n"), Some(lines));
+    let proved = proved_text(alloc, &made, 3_235)?;
+    let rest = proved.as_str().strip_prefix("proved\n");
+    assert_eq!(rt;
+        rest.and_then(|rest| rest.strip_suffix("bytes 3235\n")),
+        Some(lines)
+    );
     Ok(())
 }

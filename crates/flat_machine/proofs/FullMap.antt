@@ -1,12 +1,14 @@
 -- A whole memory as a map of pages, with the registers written into it.
-use Rattle.std.proofs.Common.{◌≡◌, ℕ, zero, suc, ◌+◌, ◌-◌, ◌*◌, ◌/◌, ◌%◌, ◌<◌, ◌≤◌, List, [], ◌∷◌, get_or, length, take, drop, Option, None, refl, sym, ap, ◌∙◌, arith, ⊎_elim}
-use Rattle.std.specs.Prelude.{replicate, unwrap_or}
-use Rattle.std.proofs.lemmas.Bool.Decides.{leb_tells}
+use Rattle.std.proofs.Common.{◌≡◌, ℕ, zero, suc, ◌+◌, ◌-◌, ◌*◌, ◌/◌, ◌%◌, ◌<◌, ◌≤◌, List, [], ◌∷◌, get_or, length, take, drop, Option, Some, None, refl, sym, ap, ap₂, ◌∙◌, arith, ⊎_elim, true, false, leb}
+use Rattle.std.specs.Prelude.{replicate, unwrap_or, is_some, option_map}
+use Rattle.std.specs.Option.{option_or}
+use Rattle.std.proofs.lemmas.Bool.Decides.{leb_tells, nat_tests}
 use Rattle.std.proofs.Math.Seq.{take-length}
 use Rattle.page_core.specs.Memory.{top, put, bytes_of, bytes_of_words}
 use Rattle.page_core.specs.Pages.{zero_page}
-use Rattle.page_core.specs.Stored.{Stored, stored_at, memory_of}
+use Rattle.page_core.specs.Stored.{Stored, stored_at, first_from, memory_of}
 use Rattle.rv_step.specs.Machine.{full_of}
+use Rattle.rv_step.specs.Opened.{page_in}
 use Rattle.rv_step.proofs.Words.{word_put, none_put}
 use Rattle.flat_machine.specs.Layers.{Layers, layered, memory_in}
 
@@ -25,15 +27,31 @@ zero_byte : (k : ℕ) → get_or zero_page k 0 ≡ 0
 unfolding zero_page
 zero_byte k = get_or-zeros 1024 k
 
--- all pages of a memory that is zero from its end on
-pub put_all : (m : Layers) (map : Stored) (n : ℕ) → n ≡ 262144 → ArePut m map n → ((a : ℕ) → 268435456 ≤ a → memory_in m a ≡ 0) → (a : ℕ) → memory_of map a ≡ memory_in m a
-put_all m map n all are rest a =
-    ⊎_elim
-    (λ far.
-    ap (λ (o : Option (List ℕ)). get_or (unwrap_or o zero_page) (a % 1024) 0) (are.others (a / 1024) (omega (arith, far.1, all)))
-    ∙ zero_byte (a % 1024) ∙ sym (rest a (omega (arith, far.1))))
-    (λ near. ap (λ (o : Option (List ℕ)). get_or (unwrap_or o zero_page) (a % 1024) 0) (are.below (a / 1024) (omega (arith, near.1, all))))
-    (leb_tells 262144 (a / 1024))
+-- all pages of a memory that is zero from its end on and has none from this number on
+pub put_all : (m : Layers) (map : Stored) (n : ℕ) → n ≤ 262144 → ((k : ℕ) → n ≤ k → k < 262144 → layered m k ≡ None) → ArePut m map n → ((a : ℕ) → 268435456 ≤ a → memory_in m a ≡ 0)
+    → (a : ℕ) → memory_of map a ≡ memory_in m a
+put_all m map n bound none are rest a =
+    ⊎_elim (λ far. absent (are.others (a / 1024) far.1) (λ low. none (a / 1024) far.1 low))
+    (λ near. ap (λ (o : Option (List ℕ)). get_or (unwrap_or o zero_page) (a % 1024) 0) (are.below (a / 1024) near.1))
+    (leb_tells n (a / 1024))
+  where
+    absent : stored_at map (a / 1024) ≡ None → (a / 1024 < 262144 → layered m (a / 1024) ≡ None) → memory_of map a ≡ memory_in m a
+    absent shut empty =
+        ap (λ (o : Option (List ℕ)). get_or (unwrap_or o zero_page) (a % 1024) 0) shut
+        ∙ zero_byte (a % 1024)
+        ∙ ⊎_elim (λ far. sym (rest a (omega (arith, far.1)))) (λ near. sym (ap (λ (o : Option (List ℕ)). get_or (unwrap_or o zero_page) (a % 1024) 0) (empty near.1) ∙ zero_byte (a % 1024))) (leb_tells 262144 (a / 1024))
+
+-- a map without a first page has none
+pub no_first : (stored : Stored) → first_from 0 stored ≡ None → (n : ℕ) → stored_at stored n ≡ None
+no_first [] none n = refl
+no_first (p ∷ ps) none n = let e : leb 0 p.0 ≡ true = grind (arith, nat_tests) in absurd (some_none p (sym (rw e refl) ∙ none))
+  where
+    some_none : {A : Type 0} (x : A) → Some x ≡ None → ⊥
+    some_none x e = cc
+
+-- where the map has no page, and the table none from this number on, neither has one
+pub no_page : (m l : Layers) (n : ℕ) → l ≡ m → page_in l.above n ≡ None → first_from 0 l.below ≡ None → layered m n ≡ None
+no_page m l n is above below = ap (λ (x : Layers). layered x n) (sym is) ∙ ap₂ (λ (a b : Option (List ℕ)). option_or a b) above (no_first l.below below n)
 
 -- ---- the registers
 -- the registers from x1 to that before n are written into a memory
@@ -66,3 +84,7 @@ written_all m map [] n all are size a = absurd (omega (arith, size))
 written_all m map (y ∷ x) n all are size a =
     let rest : n - 1 ≡ length x = omega (arith, size, all) in
     are.written a ∙ ap (λ (xs : List ℕ). put m (top + 4) (bytes_of_words xs) a) (ap (λ (j : ℕ). take j x) rest ∙ take-length x)
+
+pub no_item : {A B : Type 0} (f : A → B) (o : Option A) → is_some o ≡ false → option_map f o ≡ None
+no_item f None h = refl
+no_item f (Some x) h = absurd (cc)

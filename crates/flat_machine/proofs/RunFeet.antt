@@ -9,6 +9,7 @@ use Rattle.rv_step.specs.declared.act.Act.{Act}
 use Rattle.rv_step.specs.declared.act.Act.TheVariants.{Sets, Loads, Stores, Does, Faults}
 use Rattle.rv_step.specs.Machine.{State, Went, step_of, act, data_of, pages_of_all, foot_of, step_cost, cost_of_act, first_closed}
 use Rattle.rv_step.specs.Acts.{AllBelow}
+use Rattle.rv_step.specs.Stepping.{fetch_foot}
 use Rattle.rv_step.proofs.Acts.{acts_are_sound}
 use Rattle.rv_step.proofs.Kept.{step_keeps}
 use Rattle.rv_step.proofs.Feet.{foot-in_range, foot-out_of_range}
@@ -76,6 +77,14 @@ none_from n (p ∷ ps) h = let e : ltb p n ≡ true = grind (arith, nat_tests, h
 -- where the pages of a memory are open, no page of a footprint is closed
 pub none_closed : (s : State) → s.pc % 4 ≡ 0 → first_closed (λ page. ltb page 262144) (foot_of s) ≡ None
 none_closed s h = none_from 262144 (foot_of s) (below-foot s h)
+
+below-fetch : (s : State) → AreBelow 262144 (fetch_foot s)
+below-fetch s =
+    ⊎_elim (λ t. rw t.0 (omega arith, tt)) (λ t. rw t.0 (omega arith, (omega (arith, t.1), tt))) (leb_tells top s.pc)
+
+-- nor one of a fetch, wherever the pc is
+pub none_closed_of_fetch : (s : State) → first_closed (λ page. ltb page 262144) (fetch_foot s) ≡ None
+none_closed_of_fetch s = none_from 262144 (fetch_foot s) (below-fetch s)
 
 -- so a step leaves a memory zero from its end on
 not_in : (n : ℕ) (ps : List ℕ) (p : ℕ) → AreBelow n ps → n ≤ p → IsFalse (contains ps p)

@@ -1,17 +1,39 @@
--- What a paid step over a whole memory tells.
-use Rattle.std.proofs.Common.{◌≡◌, ℕ, ◌%◌, ◌<◌, ◌≤◌, Bool, ltb, Option, Some, None, Result, Ok, Err, sym, ◌∙◌, subst}
+-- What a look at a step and a paid step over a whole memory tell.
+use Rattle.std.proofs.Common.{◌≡◌, ℕ, ◌%◌, ◌<◌, ◌≤◌, Bool, ltb, Option, Some, None, Result, Ok, Err, sym, ap, ◌∙◌, subst}
 use Rattle.rv_isa.specs.declared.fault.Fault.{Fault}
-use Rattle.rv_step.specs.Machine.{State, Went, Halted, Faulted, step_of, step_cost}
+use Rattle.rv_step.specs.Machine.{State, Went, Halted, Faulted, step_of, foot_of, step_cost}
+use Rattle.rv_step.specs.declared.looking.Looked.{Looked}
 use Rattle.rv_step.specs.declared.stepping.Event.TheVariants as E
 use Rattle.rv_step.specs.declared.stepping.Paid.{Paid}
 use Rattle.rv_step.specs.declared.stepping.StepStop.{StepStop}
 use Rattle.rv_step.specs.declared.stepping.StepStop.TheVariants as S
-use Rattle.rv_step.specs.Stepping.{IsStepOf, IsPaidStepOf}
-use Rattle.flat_machine.proofs.RunFeet.{none_closed}
+use Rattle.rv_step.specs.Stepping.{unless_closed, fault_in, looked_of, IsStepOf, IsPaidStepOf}
+use Rattle.flat_machine.proofs.RunFeet.{none_closed, none_closed_of_fetch}
 
 -- each page of a memory is open
 abbrev pub each_open : ℕ → Bool
 each_open = λ page. ltb page 262144
+
+-- what a look tells, where they are
+abbrev shown : State → Looked
+shown s = record { foot = foot_of s; cost = step_cost s; fault = fault_in (step_of s) }
+
+module _ (s : State) (r : Result Looked ℕ) (answer : r ≡ looked_of each_open s) where
+  seen : r ≡ Ok (shown s)
+  seen = answer ∙ ap (λ (o : Option ℕ). unless_closed o (shown s)) (none_closed_of_fetch s)
+
+  looked_is : (l : Looked) → r ≡ Ok l → l ≡ shown s
+  looked_is l is = let both : Ok l ≡ Ok (shown s) = sym is ∙ seen in cc
+
+  pub looked_foot : (l : Looked) → r ≡ Ok l → l.foot ≡ foot_of s
+  looked_foot l is = ap (λ (l : Looked). l.foot) (looked_is l is)
+
+  pub looked_cost : (l : Looked) → r ≡ Ok l → l.cost ≡ step_cost s
+  looked_cost l is = ap (λ (l : Looked). l.cost) (looked_is l is)
+
+  -- none is missed
+  pub looked_never : (page : ℕ) → r ≡ Err page → ⊥
+  looked_never page is = let both : Err page ≡ Ok (shown s) = sym is ∙ seen in cc
 
 module _ (s t : State) (room : ℕ) (r : Result (Option Paid) StepStop) (answer : IsPaidStepOf each_open room s t r) where
   answered : (q : Result (Option Paid) StepStop) → r ≡ q → IsPaidStepOf each_open room s t q

@@ -1,11 +1,13 @@
 -- One step more of an uncut run, and how it ends.
-use Rattle.std.proofs.Common.{◌≡◌, ℕ, suc, ◌+◌, ◌-◌, ◌%◌, ◌<◌, ◌≤◌, true, false, ltb, List, [], Option, Some, None, refl, sym, ap, ap₂, ◌∙◌, subst, arith}
+use Rattle.std.proofs.Common.{◌≡◌, ℕ, suc, ◌+◌, ◌-◌, ◌%◌, ◌<◌, ◌≤◌, true, false, ltb, List, [], ◌++◌, take, drop, Option, Some, None, refl, sym, ap, ap₂, ◌∙◌, subst, arith}
 use Rattle.std.specs.Prelude.{option_and_then, is_some, replicate}
 use Rattle.std.proofs.lemmas.Bool.Decides.{nat_tests}
+use Rattle.std.proofs.lemmas.List.{take-append-drop}
 use Rattle.rv_isa.specs.declared.fault.Fault.{Fault}
 use Rattle.page_core.specs.Images.{Image}
 use Rattle.rv_step.specs.Machine.{State, Event, Went, Halted, Faulted, step_of, step_cost}
 use Rattle.rv_step.specs.Runs.{start, after, spent, at_some, state_gone, ends_with, verdict, IsOutcome}
+use Rattle.rv_step.specs.Tapes.{Tape}
 use Rattle.rv_step.specs.declared.outcome.Outcome.TheVariants.{Halted as HaltedWith, Faulted as FaultedAt, OverLimit}
 use Rattle.rv_step.proofs.Runs.{step_on}
 use Rattle.flat_machine.specs.Layers.{memory_in}
@@ -28,31 +30,37 @@ in_limit : (limit c k : ℕ) (t : State) (e : Event) → c + step_cost t ≤ lim
 in_limit limit c k t e h is = let f : ltb limit (c + step_cost t) ≡ false = grind (arith, nat_tests) in rw f (ap (ends_with k t.pc) is)
 
 -- ---- this one
+-- what was taken of a tape and what is left are its words
+pub all_words : (t u : Tape) → u.words ≡ t.words → take u.used u.words ++ drop u.used u.words ≡ take t.used t.words ++ drop t.used t.words
+all_words t u same = take-append-drop u.used u.words ∙ same ∙ sym (take-append-drop t.used t.words)
+
 -- where it starts
 pub stands_new : (g : Going) (image : Image) (words : List ℕ) → g.pc ≡ image.entry → g.x ≡ replicate 32 0 → ((a : ℕ) → memory_in g.memory a ≡ image.memory a)
-    → g.words ≡ words → g.journal ≡ [] → g.calls ≡ [] → g.steps ≡ 0 → g.cycles ≡ 0 → g.halted ≡ None → Stands g image words
+    → g.read ≡ [] → g.words ≡ words → g.journal ≡ [] → g.calls ≡ [] → g.steps ≡ 0 → g.cycles ≡ 0 → g.halted ≡ None → Stands g image words
 unfolding after spent
-stands_new g image words pc x memory taken journal calls steps cycles halted =
+stands_new g image words pc x memory none taken journal calls steps cycles halted =
     let same : state_of g ≡ start image words =
     λ i. record { pc = pc i; x = x i; memory = λ a. memory a i; words = taken i; journal = journal i; calls = calls i } in
     record {
       reached = ap₂ (λ (n : ℕ) (o : Option ℕ). after (start image words) (gone_in n o)) steps halted ∙ ap Some (sym same);
       cost = cycles ∙ ap (spent (start image words)) (sym steps);
       halts = subst (λ (o : Option ℕ). HaltsWith (state_of g) g.steps o) (sym halted) tt;
+      all = ap₂ (λ (xs ys : List ℕ). xs ++ ys) none taken;
     }
 
--- the state, the numbers and the halt alone count
-pub stands_still : (g h : Going) → state_of h ≡ state_of g → h.steps ≡ g.steps → h.cycles ≡ g.cycles → h.halted ≡ g.halted
+-- the state, the words, the numbers and the halt alone count
+pub stands_still : (g h : Going) → state_of h ≡ state_of g → h.read ++ h.words ≡ g.read ++ g.words → h.steps ≡ g.steps → h.cycles ≡ g.cycles → h.halted ≡ g.halted
     → (image : Image) (words : List ℕ) → Stands g image words → Stands h image words
-stands_still g h state steps cycles halted image words stands = record {
+stands_still g h state all steps cycles halted image words stands = record {
   reached = ap₂ (λ (n : ℕ) (o : Option ℕ). after (start image words) (gone_in n o)) steps halted ∙ stands.reached ∙ ap Some (sym state);
   cost = cycles ∙ stands.cost ∙ ap (spent (start image words)) (sym steps);
   halts = subst (λ (o : Option ℕ). HaltsWith (state_of h) h.steps o) (sym halted)
       (subst (λ (n : ℕ). HaltsWith (state_of h) n g.halted) (sym steps)
       (subst (λ (s : State). HaltsWith s g.steps g.halted) (sym state) stands.halts));
+  all = all ∙ stands.all;
 }
 
-module _ (g h : Going) (steps : h.steps ≡ g.steps + 1) (cycles : h.cycles ≡ g.cycles + step_cost (state_of g)) (on : g.halted ≡ None)
+module _ (g h : Going) (all : h.read ++ h.words ≡ g.read ++ g.words) (steps : h.steps ≡ g.steps + 1) (cycles : h.cycles ≡ g.cycles + step_cost (state_of g)) (on : g.halted ≡ None)
     (image : Image) (words : List ℕ) (stands : Stands g image words) where
   -- all steps went
   reached_so : after (start image words) g.steps ≡ Some (state_of g)
@@ -72,6 +80,7 @@ module _ (g h : Going) (steps : h.steps ≡ g.steps + 1) (cycles : h.cycles ≡ 
         ∙ step_on (start image words) g.steps (state_of g) (state_of h) reached_so went;
     cost = cost_on;
     halts = subst (λ (o : Option ℕ). HaltsWith (state_of h) h.steps o) (sym none) tt;
+    all = all ∙ stands.all;
   }
 
   pub stands_halted : (code : ℕ) → h.halted ≡ Some code → step_of (state_of g) ≡ Halted code → state_of h ≡ state_of g → Stands h image words
@@ -82,6 +91,7 @@ module _ (g h : Going) (steps : h.steps ≡ g.steps + 1) (cycles : h.cycles ≡ 
             ∙ ap (after (start image words)) before ∙ reached_so ∙ ap Some (sym same);
         cost = cost_on;
         halts = subst (λ (o : Option ℕ). HaltsWith (state_of h) h.steps o) (sym some) (omega (arith, steps), ap step_of same ∙ halts);
+        all = all ∙ stands.all;
       }
 
 -- ---- how it ends

@@ -1,17 +1,20 @@
 -- An uncut run that is under way.
-use Rattle.std.specs.Prelude.{◌≡◌, ℕ, ◌-◌, ◌*◌, ◌%◌, ◌≤◌, List, Option, Some, None}
+use Rattle.std.specs.Prelude.{◌≡◌, ℕ, ◌+◌, ◌-◌, ◌*◌, ◌%◌, ◌≤◌, List, ◌++◌, Option, Some, None}
 use Rattle.host_calls.specs.declared.call.AssumeCall.{AssumeCall}
 use Rattle.page_core.specs.Images.{Image}
 use Rattle.rv_step.specs.Machine.{State, Halted, step_of}
 use Rattle.rv_step.specs.Runs.{start, after, spent, IsOutcome, steps_done}
 use Rattle.rv_step.specs.declared.outcome.Outcome.{Outcome}
+use Rattle.rv_step.specs.declared.outcome.Outcome.TheVariants.{Halted as HaltedWith}
 use Rattle.flat_machine.specs.Layers.{Layers, memory_in}
 
--- where it is, what it has said, how many steps it did and what they cost, and with which code the last one halted, if it did
+-- where it is, which words it has read and which come next, what it has said, how many steps it did and what they cost, and with
+-- which code the last one halted, if it did
 pub record Going : Type 0 where
   pub pc : ℕ
   pub x : List ℕ
   pub memory : Layers
+  pub read : List ℕ
   pub words : List ℕ
   pub journal : List ℕ
   pub calls : List AssumeCall
@@ -51,6 +54,23 @@ pub record Stands (g : Going) (image : Image) (words : List ℕ) : Type 0 where
   pub reached : after (start image words) (gone g) ≡ Some (state_of g)
   pub cost : g.cycles ≡ spent (start image words) g.steps
   pub halts : HaltsWith (state_of g) g.steps g.halted
+  pub all : g.read ++ g.words ≡ words
+
+-- one step more is done, which costs at least 1
+pub record DoesOne (before after : Going) : Type 0 where
+  pub steps : after.steps ≡ before.steps + 1
+  pub cycles : before.cycles + 1 ≤ after.cycles
+
+-- none is done
+pub record DoesNone (before after : Going) : Type 0 where
+  pub steps : after.steps ≡ before.steps
+  pub cycles : after.cycles ≡ before.cycles
+  pub halted : after.halted ≡ before.halted
+
+-- what a step that ends a run does: one that halts is done, one that faults or costs too much isn't
+abbrev pub DoesLast : Going → Going → Outcome → Type 0
+DoesLast before after (HaltedWith code) = DoesOne before after × (after.halted ≡ Some code)
+DoesLast before after outcome = DoesNone before after
 
 -- the run of an image and words ends so under a limit, and this is that run, after the steps that were done by then
 pub record EndsSo (g : Going) (image : Image) (words : List ℕ) (limit : ℕ) (outcome : Outcome) : Type 0 where

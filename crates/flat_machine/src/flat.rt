@@ -2,17 +2,17 @@ ghost use Rattle.std.specs.Prelude.{◌≡◌, ◌≢◌, ◌+◌, ◌-◌, ◌^
 ghost use Rattle.page_core.specs.Images.{Image as PlainImage};
 ghost use Rattle.page_core.specs.Stored.{memory_of};
 ghost use Rattle.elf_image.specs.Loaded.{image_of};
-ghost use Rattle.rv_step.specs.Machine.{full, full_of};
+ghost use Rattle.rv_step.specs.Machine.{full, full_of, foot_of, step_cost};
 ghost use Rattle.rv_step.specs.Runs.{start, after};
-ghost use Rattle.flat_machine.specs.Going.{state_of, gone, Stands, EndsSo};
+ghost use Rattle.flat_machine.specs.Going.{state_of, gone, Stands, DoesOne, DoesNone, DoesLast, EndsSo};
 
 use crate::memory::FlatMemory;
 use byte_cursor::{ByteList, WordList};
 use elf_image::Image;
 use host_calls::CallList;
-use page_core::{PAGES, PageMap, TOP};
+use page_core::{PageMap, TOP};
 use rv_isa::Regs;
-use rv_step::{Core, Event, Outcome, RunLog, StepStop, WordTape, step_within};
+use rv_step::{Core, Event, Looked, Outcome, RunLog, StepStop, WordTape, look, step_within};
 use std::alloc::{AllocError, Global};
 use std::marker::Model;
 
@@ -36,7 +36,7 @@ pub struct Flat {
 }
 
 impl Model for Flat {
-    ghost use Rattle.std.specs.Prelude.{drop};
+    ghost use Rattle.std.specs.Prelude.{take, drop};
     ghost use Rattle.flat_machine.specs.Going.{Going, IsUncut};
 
     ghost Value = { Going };
@@ -46,6 +46,7 @@ impl Model for Flat {
           pc = f.core.pc;
           x = f.core.regs;
           memory = f.memory;
+          read = take f.tape.used f.tape.words;
           words = drop f.tape.used f.tape.words;
           journal = f.log.journal;
           calls = f.log.calls;
@@ -60,6 +61,7 @@ impl Model for Flat {
           pc = f.core.pc;
           x = f.core.regs;
           memory = f.memory;
+          read = take f.tape.used f.tape.words;
           words = drop f.tape.used f.tape.words;
           journal = f.log.journal;
           calls = f.log.calls;
@@ -111,20 +113,43 @@ impl Flat {
     {
         self.memory.lift_pages()?;
         loop {
-            if let Some(outcome) = self.turn(limit)? {
+            if let Some(outcome) = self.step(limit)? {
                 return Ok(outcome);
             }
         }
     }
 
-    // Does one step within the limit, or tells the outcome.
-    fn turn(&mut self, limit: u64) -> Result<Option<Outcome>, AllocError>
+    /// Copies the image's pages to where a step finds them without a search. No state changes by it, with Ok or with a
+    /// refusal.
+    pub fn lift(&mut self) -> Result<(), AllocError>
+        ensures stands { (image : PlainImage) (words : List ℕ) → Stands self.old image words → Stands self.new image words }
+        ensures same { DoesNone self.old self.new }
+    {
+        self.memory.lift_pages()
+    }
+
+    /// What the next step touches and costs, without doing it, as long as no step has halted. It takes no memory.
+    pub fn look(&self) -> Looked
+        ensures foot { result.foot ≡ foot_of (state_of self.now) }
+        ensures cost { result.cost ≡ step_cost (state_of self.now) }
+    {
+        match look(&self.core, &self.memory, &self.tape) {
+            Ok(looked) => looked,
+            Err(_) => unreachable!(),
+        }
+    }
+
+    /// Does the next step within a limit on the cost of all steps from the start, which the steps so far keep, or tells
+    /// the outcome: that of a step that halts, which is done, or that faults or costs too much, which isn't.
+    pub fn step(&mut self, limit: u64) -> Result<Option<Outcome>, AllocError>
         requires { self.old.cycles ≤ limit }
         ensures stands { (image : PlainImage) (words : List ℕ) → Stands self.old image words → Stands self.new image words }
         ensures within { self.new.cycles ≤ limit }
-        ensures went { IfOk result (λ ended. IfNone ended (self.old.cycles < self.new.cycles)) }
+        ensures went { IfOk result (λ ended. IfNone ended ((self.old.halted ≡ None) × (self.new.halted ≡ None) × DoesOne self.old self.new)) }
         ensures ended { IfOk result (λ ended. IfSome ended (λ outcome. (image : PlainImage) (words : List ℕ) → Stands self.old image words → EndsSo self.new image words limit outcome)) }
+        ensures last { IfOk result (λ ended. IfSome ended (λ outcome. self.old.halted ≡ None → DoesLast self.old self.new outcome)) }
         ensures more { self.old.steps ≤ self.new.steps }
+        ensures refused { OnErr result (DoesNone self.old self.new) }
     {
         if let Some(code) = self.halted {
             return Ok(Some(Outcome::Halted(code)));
@@ -225,13 +250,20 @@ impl Flat {
         ensures { IfOk result (λ map. (a : ℕ) → memory_of map a ≡ full (state_of self.now) a) }
     {
         let mut map = PageMap::new(self.alloc);
-        for number in 0..PAGES {
+        for number in 0..self.memory.end() {
             if let Some(page) = self.memory.page(number) {
                 map.put_page(number, page)?;
             }
         }
         write_registers(&mut map, self.core.regs)?;
         Ok(map)
+    }
+
+    /// The input words that it has read.
+    pub fn read(&self) -> &[u32]
+        ensures { result.now ≡ self.now.read }
+    {
+        self.tape.taken()
     }
 
     /// What it has written to its journal.

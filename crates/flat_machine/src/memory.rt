@@ -1,4 +1,4 @@
-ghost use Rattle.std.specs.Prelude.{◌≡◌, ℕ, ◌/◌, None, OnOk, option_map};
+ghost use Rattle.std.specs.Prelude.{◌≡◌, ℕ, ◌/◌, ◌<◌, ◌≤◌, None, OnOk, option_map};
 ghost use Rattle.page_core.specs.Pages.{IsPage};
 ghost use Rattle.page_core.specs.Stored.{stored_at, memory_of};
 ghost use Rattle.flat_machine.specs.Layers.{layered, layered_pages, memory_in};
@@ -45,6 +45,18 @@ impl FlatMemory {
             Some(page) => Some(page),
             None => self.below.page(number),
         }
+    }
+
+    // A number up to 262,144 from which on neither layer has a page.
+    pub(crate) fn end(&self) -> u32
+        ensures bound { result ≤ 262144 }
+        ensures none { (n : ℕ) → result ≤ n → n < 262144 → layered self.now n ≡ None }
+    {
+        let end = self.above.end();
+        if self.below.next_from(0).is_none() && end < PAGES as usize {
+            return end as u32;
+        }
+        PAGES
     }
 
     // The bytes of the page in which an address lies.

@@ -1,1 +1,3 @@
+pub mod Metering
 pub mod Placed
+pub mod Rising

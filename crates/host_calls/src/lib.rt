@@ -1,12 +1,15 @@
-//! The host calls of a guest: their numbers, arguments, ranges and costs; and the footprint of a step.
+//! The host calls of a guest: their numbers, arguments, ranges and costs; the footprint of a step; and
+//! the meter of a segment.
 #![tactic(auto)]
 
 mod call;
 mod foot;
+mod meter;
 mod reading;
 #[cfg(test)]
 mod tests;
 
 pub use call::{AssumeCall, Call, CallList};
 pub use foot::Foot;
+pub use meter::Meter;
 pub use reading::{cost, read_call};

@@ -1,5 +1,6 @@
-use crate::{Call, Foot, cost, read_call};
+use crate::{Call, Foot, Meter, cost, read_call};
 use rv_isa::{Fault, Regs};
+use std::test::Fail;
 
 #[test]
 fn calls_are_read_up_to_their_limits(rt: HostRuntime) {
@@ -100,4 +101,61 @@ fn a_footprint_has_its_data_pages_ascending_and_once(rt: HostRuntime) {
         assert_eq!(rt; foot.pages(), pages, "with {page}");
     }
     assert_eq!(rt; Foot::of_registers().pages(), [262_143].as_slice());
+}
+
+#[test]
+fn a_segment_stays_within_both_limits(rt: HostRuntime) -> Result<(), Fail> {
+    // The code page, the data page and the cost of a step, whether it fits a segment of at most
+    // 10 cycles and 4 pages, and the pages touched after it.
+    let table = [
+        (7, 7, 11, false, [].as_slice()),
+        (7, 3, 4, true, [3, 7, 262_143].as_slice()),
+        (7, 3, 7, false, [3, 7, 262_143].as_slice()),
+        (5, 9, 1, false, [3, 7, 262_143].as_slice()),
+        (3, 262_143, 1, true, [3, 7, 262_143].as_slice()),
+        (7, 5, 1, true, [3, 5, 7, 262_143].as_slice()),
+        (8, 8, 0, false, [3, 5, 7, 262_143].as_slice()),
+        (5, 3, 4, true, [3, 5, 7, 262_143].as_slice()),
+        (5, 3, 1, false, [3, 5, 7, 262_143].as_slice()),
+        (5, 3, 0, true, [3, 5, 7, 262_143].as_slice()),
+    ];
+    let mut meter = Meter::new(rt.alloc(), 10, 4);
+    for (code, data, cost, expected, pages) in table {
+        let mut foot = Foot::of_code(code);
+        foot.add(data);
+        let fits = meter.fits(&foot, cost);
+        assert_eq!(rt; fits, expected, "{code}, {data} at {cost}");
+        if fits {
+            meter.add(&foot, cost)?;
+        }
+        assert_eq!(rt; meter.pages(), pages, "after {code}, {data} at {cost}");
+    }
+    Ok(())
+}
+
+#[test]
+fn a_page_that_a_footprint_names_twice_counts_once(rt: HostRuntime) -> Result<(), Fail> {
+    let foot = Foot::of_code(262_143);
+    assert_eq!(rt; foot.pages(), [262_143, 262_143].as_slice());
+    let mut meter = Meter::new(rt.alloc(), 1, 1);
+    meter.reserve()?;
+    assert!(rt; meter.fits(&foot, 1));
+    meter.add(&foot, 1)?;
+    assert_eq!(rt; meter.pages(), [262_143].as_slice());
+    assert!(rt; !Meter::new(rt.alloc(), 1, 0).fits(&foot, 1));
+    Ok(())
+}
+
+#[test]
+fn a_cleared_meter_keeps_its_limits(rt: HostRuntime) -> Result<(), Fail> {
+    let foot = Foot::of_code(4);
+    let mut meter = Meter::new(rt.alloc(), 10, 2);
+    assert!(rt; meter.fits(&foot, 10));
+    meter.add(&foot, 10)?;
+    assert!(rt; !meter.fits(&foot, 1));
+    meter.clear();
+    assert_eq!(rt; meter.pages(), [].as_slice());
+    assert!(rt; meter.fits(&Foot::of_code(5), 10));
+    assert!(rt; !meter.fits(&foot, 11));
+    Ok(())
 }

@@ -1,4 +1,4 @@
-ghost use Rattle.std.specs.Prelude.{◌≡◌, ◌≢◌, ℕ, ◌<◌, Some, None, OnOk, OnErr, option_map};
+ghost use Rattle.std.specs.Prelude.{◌≡◌, ◌≢◌, ℕ, ◌<◌, ◌≤◌, Some, None, OnOk, OnErr, option_map};
 ghost use Rattle.rv_step.specs.Opened.{page_in};
 
 use crate::bus::Bus;
@@ -55,6 +55,13 @@ impl OpenPages {
             Some(Some(page)) => Some(page),
             _ => None,
         }
+    }
+
+    /// A number from which on no page is open.
+    pub fn end(&self) -> usize
+        ensures { (number : ℕ) → result ≤ number → page_in self.now number ≡ None }
+    {
+        self.pages.len()
     }
 }
 

@@ -1,4 +1,4 @@
-ghost use Rattle.std.specs.Prelude.{◌≡◌, ◌+◌, ◌≤◌, drop, length};
+ghost use Rattle.std.specs.Prelude.{◌≡◌, ◌+◌, ◌≤◌, take, drop, length};
 
 use byte_cursor::WordList;
 use std::marker::Model;
@@ -35,6 +35,13 @@ impl WordTape {
         ensures bound { self.now.used ≤ length self.now.words }
     {
         self.used
+    }
+
+    /// The words that were taken.
+    pub fn taken(&self) -> &[u32]
+        ensures { result.now ≡ take self.now.used self.now.words }
+    {
+        &self.words.as_slice()[..self.used]
     }
 
     /// The words that are left.

@@ -1,5 +1,5 @@
 -- A receipt that is accepted is answered as valid, and an ELF file that fails no test with its id.
-use Rattle.std.proofs.Common.{◌≡◌, ◌≢◌, ◌≤◌, ◌⊎◌, inl, inr, ℕ, ◌/◌, ◌%◌, Bool, List, [], ◌++◌, length, get_or, Option, Some, None, subst, refl, sym, ap, ◌∙◌, arith}
+use Rattle.std.proofs.Common.{◌≡◌, ◌≢◌, ◌≤◌, inl, inr, ℕ, ◌/◌, ◌%◌, Bool, List, [], ◌++◌, length, get_or, Option, Some, None, subst, refl, sym, ap, ◌∙◌, arith}
 use Rattle.std.proofs.lemmas.Bool.{le-leb}
 use Rattle.std.specs.Prelude.{MatchBool}
 use Rattle.outside.specs.Files.{Files}

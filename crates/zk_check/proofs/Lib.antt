@@ -1,4 +1,3 @@
 pub mod Answered
 pub mod Ended
-pub mod Text
 pub mod Accepting

@@ -23,7 +23,8 @@ use Rattle.cli_text.specs.declared.status.Status.TheVariants.{Done, Refused, Wor
 use Rattle.cli_text.specs.Lines.{no_file_lines, too_long_lines}
 use Rattle.cli_text.specs.BadElf.{bad_elf_lines}
 use Rattle.zk_check.specs.Words.{Job, check, identify, file_of, limit_of, job_of}
-use Rattle.zk_check.specs.Lines.{usage_lines, valid_lines, id_lines}
+use Rattle.cli_text.specs.Reports.{valid_lines}
+use Rattle.zk_check.specs.Lines.{usage_lines, id_lines}
 use Rattle.zk_check.specs.Refusals.{stop_lines}
 
 -- ---- a receipt

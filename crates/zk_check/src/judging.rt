@@ -2,9 +2,8 @@ ghost use Rattle.std.specs.Prelude.{IfOk, string_bytes};
 ghost use Rattle.zk_check.specs.Answers.{Judged};
 
 use crate::refusals::stop_text;
-use crate::valid::valid_text;
 use check_core::{CheckStop, check};
-use cli_text::{Printed, Status};
+use cli_text::{Printed, Status, valid_text};
 use digest_core::{Digest, Digester};
 use std::alloc::{AllocError, Global};
 

@@ -20,7 +20,6 @@ mod seals_tests;
 mod tests;
 mod top;
 mod usage;
-mod valid;
 
 use cli_text::Status;
 use digest_core::ShaDigester;

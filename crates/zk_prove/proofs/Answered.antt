@@ -1,130 +1,168 @@
--- The answer to a job, from the answers to its files.
-use Rattle.std.proofs.Common.{◌≡◌, ◌≤◌, ℕ, inl, inr, List, length, Option, Some, None, Ok, Err, sym, subst, ◌∙◌}
+-- The answers, from what is answered of the guest in two files.
+use Rattle.std.proofs.Common.{◌≡◌, ◌⊎◌, ⊎_elim, ℕ, inl, inr, List, Option, Some, None, Ok, Err, refl, sym, ap, subst, ◌∙◌}
 use Rattle.std.specs.Prelude.{string_bytes}
 use Rattle.std.specs.Io.KnownBytes.{append_known}
-use Rattle.byte_cursor.specs.Growing.{Growing}
 use Rattle.outside.specs.Files.{Files}
 use Rattle.page_core.specs.Images.{Image}
 use Rattle.rv_step.specs.Runs.{start, IsOutcome}
 use Rattle.rv_step.specs.declared.outcome.Outcome.{Outcome}
 use Rattle.rv_step.specs.declared.outcome.Outcome.TheVariants.{Halted, Faulted, OverLimit}
-use Rattle.elf_image.specs.Loaded.{Loads}
+use Rattle.elf_image.specs.Loaded.{image_of}
+use Rattle.executor.specs.Segments.{Limits}
 use Rattle.cli_text.specs.declared.printed.Printed.{Printed}
 use Rattle.cli_text.specs.declared.status.Status.{Status}
-use Rattle.cli_text.specs.declared.status.Status.TheVariants.{Done, Words, NoFile, TooLong, BadFile}
-use Rattle.zk_prove.specs.Words.{Job, file_limit, Names}
-use Rattle.zk_prove.specs.Answers.{Tells, IsExecuted, IsBadElf, NotRead, IsOfFiles, IsOfFile, AnswersInput, AnswersFile, AnswersElf, AnswersJob, Answers}
-use Rattle.zk_prove.specs.Ends.{IsHaltedPut, OnFiles}
+use Rattle.cli_text.specs.declared.status.Status.TheVariants.{Done, Refused, Words, ReadFault, WriteFault, Memory, NoFile, TooLong, BadFile, Collision}
+use Rattle.cli_text.specs.Ends.{Kept, written, EndsWriting}
+use Rattle.zk_prove.specs.declared.guest.Guest.{Guest}
+use Rattle.zk_prove.specs.Words.{Job, Proof, Names, NamesProof}
+use Rattle.zk_prove.specs.Guests.{HasGuest, HasNoGuest, NotRead, IsOfNoGuest, IsOfFiles, AnswersGuest}
+use Rattle.zk_prove.specs.Read.{IsOfGuest}
+use Rattle.zk_prove.specs.Answers.{Tells, IsExecuted, AnswersJob, Answers}
+use Rattle.zk_prove.specs.Proving.{IsProven, TellsProof, IsSession, AnswersProof, AnswersAll}
+use Rattle.zk_prove.specs.Ends.{IsHaltedPut, IsProvedPut, OnFiles}
 
--- the answer where the first file isn't read
-pub elf_unread : (job : Job) (told : Option Files) (printed : Printed) → IsOfFile job.elf told (Err printed) → AnswersJob job told printed.status (string_bytes printed.text)
-elf_unread job None printed of = of.0
-elf_unread job (Some files) printed of = inl of.1
+-- ---- the answer to the files
+may_of : (status : Status) → IsOfNoGuest status → IsOfFiles status
+may_of NoFile of = tt
+may_of TooLong of = tt
+may_of BadFile of = tt
+may_of Done of = absurd of
+may_of Refused of = absurd of
+may_of Words of = absurd of
+may_of ReadFault of = absurd of
+may_of WriteFault of = absurd of
+may_of Memory of = absurd of
+may_of Collision of = absurd of
 
-module _ (job : Job) (told : Option Files) (elf : Growing ℕ) (read : IsOfFile job.elf told (Ok elf)) where
-  -- where it loads nothing
-  pub elf_bad : (status : Status) (lines : List ℕ) → IsOfFiles status → IsBadElf elf.items status lines → AnswersJob job told status lines
-  elf_bad status lines may bad = go told read
-    where
-      go : (t : Option Files) → IsOfFile job.elf t (Ok elf) → AnswersJob job t status lines
-      go None of = may
-      go (Some files) of = inr (record { bytes = elf.items; is_held = of.1; within = of.0; answers = inl bad })
+pub no_guest_done : (status : Status) → IsOfNoGuest status → status ≡ Done → ⊥
+no_guest_done status of done = subst IsOfNoGuest done of
 
-  module _ (image : Image) (loads : Loads elf.items image) where
-    -- where the second file isn't read
-    pub input_unread : (printed : Printed) → IsOfFile job.input told (Err printed) → AnswersJob job told printed.status (string_bytes printed.text)
-    input_unread printed unread = go told read unread
-      where
-        go : (t : Option Files) → IsOfFile job.elf t (Ok elf) → IsOfFile job.input t (Err printed) → AnswersJob job t printed.status (string_bytes printed.text)
-        go None of other = other.0
-        go (Some files) of other = inr (record { bytes = elf.items; is_held = of.1; within = of.0; answers = inr (record { image = image; loads = loads; answers = inl other.1 }) })
+module _ (Run : Image → List ℕ → Status → List ℕ → Type 0) (elf input : List ℕ) where
+  -- where they hold no guest
+  pub no_guest : (told : Option Files) (printed : Printed) → IsOfGuest elf input told (Err printed) → AnswersGuest Run elf input told printed.status (string_bytes printed.text)
+  no_guest None printed of = may_of printed.status of.0
+  no_guest (Some files) printed of = inl of.1
 
-    pub input_answered : (input : Growing ℕ) (status : Status) (lines : List ℕ) → IsOfFile job.input told (Ok input) → IsOfFiles status → AnswersInput image job.limit input.items status lines
-        → AnswersJob job told status lines
-    input_answered input status lines second may answers = go told read second
-      where
-        go : (t : Option Files) → IsOfFile job.elf t (Ok elf) → IsOfFile job.input t (Ok input) → AnswersJob job t status lines
-        go None of other = may
-        go (Some files) of other =
-            inr (record {
-              bytes = elf.items;
-              is_held = of.1;
-              within = of.0;
-              answers = inr (record { image = image; loads = loads; answers = inr (record { bytes = input.items; is_held = other.1; within = other.0; answers = answers }) });
-            })
+  -- and where they hold one
+  pub one_guest : (told : Option Files) (guest : Guest) (status : Status) (lines : List ℕ) → IsOfGuest elf input told (Ok guest) → IsOfFiles status
+      → Run (image_of guest.image) guest.words.items status lines → AnswersGuest Run elf input told status lines
+  one_guest None guest status lines of may run = may
+  one_guest (Some files) guest status lines of may run =
+      inr (of.has, subst (λ (words : List ℕ). Run of.has.image words status lines) of.words (subst (λ (image : Image). Run image guest.words.items status lines) of.image run))
 
--- an answer to an input is one that may be
-executed_may : (image : Image) (words : List ℕ) (limit : ℕ) (status : Status) (lines : List ℕ) → IsExecuted image words limit status lines → IsOfFiles status
+-- ---- an answer of a guest is one that may be
+may_be : (status other : Status) → IsOfFiles other → status ≡ other → IsOfFiles status
+may_be status other may is = subst IsOfFiles (sym is) may
+
+pub executed_may : (image : Image) (words : List ℕ) (limit : ℕ) (status : Status) (lines : List ℕ) → IsExecuted image words limit status lines → IsOfFiles status
 executed_may image words limit status lines x = go x.outcome x.ends x.tells
   where
     go : (o : Outcome) (ends : IsOutcome (start image words) limit o) → Tells (start image words) limit o ends status lines → IsOfFiles status
-    go (Halted code) ends t = subst (λ (s : Status). IsOfFiles s) (sym t.0) tt
-    go (Faulted fault pc step) ends t = subst (λ (s : Status). IsOfFiles s) (sym t.0) tt
-    go (OverLimit step) ends t = subst (λ (s : Status). IsOfFiles s) (sym t.0) tt
+    go (Halted code) ends t = may_be status Done tt t.0
+    go (Faulted fault pc step) ends t = may_be status Refused tt t.0
+    go (OverLimit step) ends t = may_be status Refused tt t.0
 
-pub input_may : (image : Image) (limit : ℕ) (bytes : List ℕ) (status : Status) (lines : List ℕ) → AnswersInput image limit bytes status lines → IsOfFiles status
-input_may image limit bytes status lines (inl bad) = subst (λ (s : Status). IsOfFiles s) (sym bad.status_is) tt
-input_may image limit bytes status lines (inr run) = executed_may image run.words limit status lines run.executed
+pub session_may : (H : List ℕ → List ℕ) (l : Limits) (receipt : List ℕ) (image : Image) (words : List ℕ) (status : Status) (lines : List ℕ) (kept : Option Kept)
+    → IsSession H l receipt image words status lines kept → IsOfFiles status
+session_may H l receipt image words status lines kept (inl many) = may_be status Refused tt many.1.0
+session_may H l receipt image words status lines kept (inr judged) = go judged.outcome judged.ends judged.tells
+  where
+    go : (o : Outcome) (ends : IsOutcome (start image words) l.limit o) → TellsProof H l receipt image words o ends status lines kept → IsOfFiles status
+    go (Halted code) ends (inl refused) = may_be status Refused tt refused.1.0
+    go (Halted code) ends (inr proven) = ⊎_elim (λ done. may_be status Done tt done.status_is) (λ long. may_be status TooLong tt long.status_is) proven.answers
+    go (Faulted fault pc step) ends refused = may_be status Refused tt refused.0
+    go (OverLimit step) ends refused = may_be status Refused tt refused.0
 
 -- ---- a status of 0
-done_is : {A : Type 0} → (status other : Status) → status ≡ Done → status ≡ other → (Done ≡ other → ⊥) → A
-done_is status other done is differ = absurd (differ (sym done ∙ is))
+not_refused : {A : Type 0} → Done ≡ Refused → A
+not_refused e = absurd (cc)
 
-not_words : Done ≡ Words → ⊥
-not_words e = cc
+not_words : {A : Type 0} → Done ≡ Words → A
+not_words e = absurd (cc)
 
-not_no_file : Done ≡ NoFile → ⊥
-not_no_file e = cc
+not_no_file : {A : Type 0} → Done ≡ NoFile → A
+not_no_file e = absurd (cc)
 
-not_too_long : Done ≡ TooLong → ⊥
-not_too_long e = cc
+not_too_long : {A : Type 0} → Done ≡ TooLong → A
+not_too_long e = absurd (cc)
 
-not_bad_file : Done ≡ BadFile → ⊥
-not_bad_file e = cc
+not_bad_file : {A : Type 0} → Done ≡ BadFile → A
+not_bad_file e = absurd (cc)
 
-module _ (status : Status) (lines : List ℕ) (done : status ≡ Done) where
-  read_done : {A : Type 0} → (name : List ℕ) (held : Option (List ℕ)) → NotRead name held status lines → A
-  read_done name None unread = done_is status NoFile done unread.0 not_no_file
-  read_done name (Some bytes) unread = done_is status TooLong done unread.1 not_too_long
+read_done : {A : Type 0} → (name : List ℕ) (held : Option (List ℕ)) (lines : List ℕ) → NotRead name held Done lines → A
+read_done name None lines unread = not_no_file unread.0
+read_done name (Some bytes) lines unread = not_too_long unread.1
 
-  pub done_halted : (words : List (List ℕ)) (told : Option Files) (taken taken' : Option (List ℕ)) → Answers words told status lines → taken' ≡ append_known taken lines
-      → OnFiles told (λ files. IsHaltedPut words files taken taken')
-  done_halted words told taken taken' (inl none) put = done_is status Words done none.status_is not_words
-  done_halted words told taken taken' (inr one) put = of_job one.job one.names told one.answers
-    where
-      of_run : (job : Job) (files : Files) → Names words job → (elf : List ℕ) → files job.elf ≡ Some elf → length elf ≤ file_limit → (image : Image) → Loads elf image
-          → (bytes : List ℕ) → files job.input ≡ Some bytes → length bytes ≤ file_limit → AnswersInput image job.limit bytes status lines → IsHaltedPut words files taken taken'
-      of_run job files names elf held within image loads bytes input_held input_within (inl bad) = done_is status BadFile done bad.status_is not_bad_file
-      of_run job files names elf held within image loads bytes input_held input_within (inr run) = record {
-        has = record {
-          job = job;
+-- the files hold a guest
+has_guest : {A : Type 0} → (elf input : List ℕ) (files : Files) (lines : List ℕ) → HasNoGuest elf input files Done lines → A
+has_guest elf input files lines (inl unread) = read_done elf (files elf) lines unread
+has_guest elf input files lines (inr (inl bad)) = not_bad_file bad.answers.status_is
+has_guest elf input files lines (inr (inr no_input)) = ⊎_elim (λ unread. read_done input (files input) lines unread) (λ bad. not_bad_file bad.answers.status_is) no_input.answers
+
+-- the run that is told, and the receipt that is written
+pub done_halted : (words : List (List ℕ)) (told : Option Files) (status : Status) (lines : List ℕ) (taken taken' : Option (List ℕ)) → status ≡ Done → Answers words told status lines
+    → taken' ≡ append_known taken lines → OnFiles told (λ files. IsHaltedPut words files taken taken')
+done_halted words told status lines taken taken' done answers put = of_words (subst (λ (s : Status). Answers words told s lines) done answers)
+  where
+    of_files : (job : Job) → Names words job → (t : Option Files) → AnswersJob job t Done lines → OnFiles t (λ files. IsHaltedPut words files taken taken')
+    of_files job names None answers = tt
+    of_files job names (Some files) (inl none) = has_guest job.elf job.input files lines none
+    of_files job names (Some files) (inr (guest, executed)) = record { job = job; names = names; guest = guest; lines = lines; executed = executed; put = put }
+
+    of_words : Answers words told Done lines → OnFiles told (λ files. IsHaltedPut words files taken taken')
+    of_words (inl usage) = not_words usage.1.0
+    of_words (inr one) = of_files one.job one.names told one.answers
+
+module _ (H : List ℕ → List ℕ) (words : List (List ℕ)) (proof : Proof) (names : NamesProof words proof) (lines : List ℕ) (kept : Option Kept) (told' : Option Files) (taken taken' : Option (List ℕ)) (put : taken' ≡ append_known taken lines) where
+  module _ (files : Files) (wrote : told' ≡ written kept (Some files)) (guest : HasGuest proof.elf proof.input files) where
+    of_proven : (code : ℕ) (ends : IsOutcome (start guest.image guest.words) proof.limits.limit (Halted code)) → IsProven H proof.limits proof.receipt guest.image guest.words code ends Done lines kept
+        → IsProvedPut H words files told' taken taken'
+    of_proven code ends proven =
+        ⊎_elim
+        (λ done. record {
+          proof = proof;
           names = names;
-          elf = elf;
-          elf_held = held;
-          elf_within = within;
-          image = image;
-          loads = loads;
-          bytes = bytes;
-          input_held = input_held;
-          input_within = input_within;
-          input = run.words;
-          is_input = run.input;
-        };
-        lines = lines;
-        executed = subst (λ (s : Status). IsExecuted image run.words job.limit s lines) done run.executed;
-        put = put;
-      }
+          guest = guest;
+          code = code;
+          ends = ends;
+          bytes = proven.bytes;
+          is_receipt = proven.is_receipt;
+          written = wrote ∙ ap (λ (k : Option Kept). written k (Some files)) done.kept_is;
+          report = done.report;
+          reports = done.reports;
+          put = put ∙ ap (append_known taken) done.lines_are;
+        })
+        (λ long. not_too_long long.status_is) proven.answers
 
-      of_input : (job : Job) (files : Files) → Names words job → (elf : List ℕ) → files job.elf ≡ Some elf → length elf ≤ file_limit → (image : Image) → Loads elf image
-          → AnswersFile job.input (files job.input) status lines (λ input. AnswersInput image job.limit input status lines) → IsHaltedPut words files taken taken'
-      of_input job files names elf held within image loads (inl unread) = read_done job.input (files job.input) unread
-      of_input job files names elf held within image loads (inr read) = of_run job files names elf held within image loads read.bytes read.is_held read.within read.answers
+    of_outcome : (o : Outcome) (ends : IsOutcome (start guest.image guest.words) proof.limits.limit o) → TellsProof H proof.limits proof.receipt guest.image guest.words o ends Done lines kept
+        → IsProvedPut H words files told' taken taken'
+    of_outcome (Halted code) ends (inl refused) = not_refused refused.1.0
+    of_outcome (Halted code) ends (inr proven) = of_proven code ends proven
+    of_outcome (Faulted fault pc step) ends refused = not_refused refused.0
+    of_outcome (OverLimit step) ends refused = not_refused refused.0
 
-      of_elf : (job : Job) (files : Files) → Names words job → (elf : List ℕ) → files job.elf ≡ Some elf → length elf ≤ file_limit → AnswersElf job files elf status lines → IsHaltedPut words files taken taken'
-      of_elf job files names elf held within (inl bad) = done_is status BadFile done bad.status_is not_bad_file
-      of_elf job files names elf held within (inr loaded) = of_input job files names elf held within loaded.image loaded.loads loaded.answers
+    of_session : IsSession H proof.limits proof.receipt guest.image guest.words Done lines kept → IsProvedPut H words files told' taken taken'
+    of_session (inl many) = not_refused many.1.0
+    of_session (inr judged) = of_outcome judged.outcome judged.ends judged.tells
 
-      of_job : (job : Job) → Names words job → (t : Option Files) → AnswersJob job t status lines → OnFiles t (λ files. IsHaltedPut words files taken taken')
-      of_job job names None answers = tt
-      of_job job names (Some files) (inl unread) = read_done job.elf (files job.elf) unread
-      of_job job names (Some files) (inr read) = of_elf job files names read.bytes read.is_held read.within read.answers
+  done_answered : (P : Files → Type 0) (told : Option Files) → told' ≡ written kept told → AnswersProof H proof told Done lines kept
+      → OnFiles told (λ files. P files ⊎ IsProvedPut H words files told' taken taken')
+  done_answered P None wrote answers = tt
+  done_answered P (Some files) wrote answers =
+      ⊎_elim (λ none. has_guest proof.elf proof.input files lines none) (λ held. inr (of_session files wrote held.0 held.1)) answers.0
+
+pub done_proved : (H : List ℕ → List ℕ) (words : List (List ℕ)) (proof : Proof) → NamesProof words proof → (status : Status) (told told' : Option Files) (taken taken' : Option (List ℕ)) → status ≡ Done
+    → EndsWriting (AnswersProof H proof told) status told told' taken taken' → OnFiles told (λ files. IsHaltedPut words files taken taken' ⊎ IsProvedPut H words files told' taken taken')
+done_proved H words proof names status told told' taken taken' done ends =
+    let (answer, wrote, put) = subst (λ (s : Status). EndsWriting (AnswersProof H proof told) s told told' taken taken') done ends in
+    done_answered H words proof names answer.lines answer.kept told' taken taken' put (λ files. IsHaltedPut words files taken taken') told wrote answer.answers
+
+-- ---- an answer of the whole program
+pub answers_proof : (H : List ℕ → List ℕ) (words : List (List ℕ)) (told : Option Files) (proof : Proof) → NamesProof words proof → (status : Status) (lines : List ℕ) (kept : Option Kept)
+    → AnswersProof H proof told status lines kept → AnswersAll H words told status lines kept
+answers_proof H words told proof names status lines kept answers = inr (inr (record { proof = proof; names = names; answers = answers }))
+
+pub answers_exec : (H : List ℕ → List ℕ) (words : List (List ℕ)) (told : Option Files) → ((proof : Proof) → NamesProof words proof → ⊥) → (status : Status) (lines : List ℕ)
+    → Answers words told status lines → AnswersAll H words told status lines None
+answers_exec H words told none status lines (inl usage) = inl ((usage.0, none), usage.1, refl)
+answers_exec H words told none status lines (inr one) = inr (inl (record { job = one.job; names = one.names; answers = one.answers; kept_is = refl }))

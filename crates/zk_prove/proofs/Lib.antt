@@ -2,4 +2,9 @@ pub mod Inputs
 pub mod Limits
 pub mod Printing
 pub mod Told
+pub mod Reading
 pub mod Answered
+pub mod Reporting
+pub mod Images
+pub mod Proved
+pub mod Ended

@@ -1,34 +1,40 @@
--- What stands after the program.
-use Rattle.std.specs.Prelude.{◌≡◌, ℕ, ◌≤◌, List, length, Option, Some, None}
+-- What stands after the program with status 0. H is the digest function.
+use Rattle.std.specs.Prelude.{◌≡◌, ℕ, List, length, Option, Some, None}
 use Rattle.std.specs.Io.KnownBytes.{append_known}
-use Rattle.outside.specs.Files.{Files}
-use Rattle.page_core.specs.Images.{Image}
-use Rattle.elf_image.specs.Loaded.{Loads}
+use Rattle.outside.specs.Files.{Files, stored}
+use Rattle.rv_step.specs.Runs.{start, IsOutcome}
+use Rattle.rv_step.specs.declared.outcome.Outcome.TheVariants.{Halted}
+use Rattle.check_core.specs.Reports.{Report, report_of}
 use Rattle.cli_text.specs.declared.status.Status.TheVariants.{Done}
-use Rattle.zk_prove.specs.Words.{Job, file_limit, Names}
-use Rattle.zk_prove.specs.Answers.{IsInput, IsExecuted}
+use Rattle.cli_text.specs.Reports.{proved_lines}
+use Rattle.zk_prove.specs.Words.{Job, Proof, Names, NamesProof}
+use Rattle.zk_prove.specs.Guests.{HasGuest}
+use Rattle.zk_prove.specs.Answers.{IsExecuted}
+use Rattle.zk_prove.specs.Proving.{bundle_of, IsReceipt}
 
--- the words name a job, whose files, as told, are an ELF file that loads an image and an input of whole words
-pub record HasInput (words : List (List ℕ)) (files : Files) : Type 0 where
+-- the words name a job, the uncut run of whose guest halts within the limit, and the sink has exactly its lines appended
+pub record IsHaltedPut (words : List (List ℕ)) (files : Files) (taken taken' : Option (List ℕ)) : Type 0 where
   pub job : Job
   pub names : Names words job
-  pub elf : List ℕ
-  pub elf_held : files job.elf ≡ Some elf
-  pub elf_within : length elf ≤ file_limit
-  pub image : Image
-  pub loads : Loads elf image
-  pub bytes : List ℕ
-  pub input_held : files job.input ≡ Some bytes
-  pub input_within : length bytes ≤ file_limit
-  pub input : List ℕ
-  pub is_input : IsInput bytes input
-
--- the uncut run of that image and input halts within the limit, and the sink has exactly its lines appended
-pub record IsHaltedPut (words : List (List ℕ)) (files : Files) (taken taken' : Option (List ℕ)) : Type 0 where
-  pub has : HasInput words files
+  pub guest : HasGuest job.elf job.input files
   pub lines : List ℕ
-  pub executed : IsExecuted has.image has.input has.job.limit Done lines
+  pub executed : IsExecuted guest.image guest.words job.limit Done lines
   pub put : taken' ≡ append_known taken lines
+
+-- the words name a proof, the run of whose guest halts; the receipt's name holds exactly the bytes that spell the bundle of that
+-- run's segments, other names are as before, and the sink has exactly the lines of its report appended
+pub record IsProvedPut (H : List ℕ → List ℕ) (words : List (List ℕ)) (files : Files) (told' : Option Files) (taken taken' : Option (List ℕ)) : Type 0 where
+  pub proof : Proof
+  pub names : NamesProof words proof
+  pub guest : HasGuest proof.elf proof.input files
+  pub code : ℕ
+  pub ends : IsOutcome (start guest.image guest.words) proof.limits.limit (Halted code)
+  pub bytes : List ℕ
+  pub is_receipt : IsReceipt H proof.limits guest.image guest.words code ends bytes
+  pub written : told' ≡ Some (stored proof.receipt bytes files)
+  pub report : Report
+  pub reports : report_of H (bundle_of H proof.limits (start guest.image guest.words)) ≡ Some report
+  pub put : taken' ≡ append_known taken (proved_lines report (length bytes))
 
 abbrev pub OnFiles : Option Files → (Files → Type 0) → Type 0
 OnFiles None P = Unit {0}

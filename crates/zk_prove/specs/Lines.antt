@@ -26,3 +26,10 @@ faulted_lines fault pc step = line (codes "faulted " ++ decimal step ++ codes " 
 
 abbrev pub over_limit_lines : ℕ → List ℕ
 over_limit_lines step = line (codes "over-limit " ++ decimal step)
+
+abbrev pub too_many_seals_lines : List ℕ
+too_many_seals_lines = line (codes "too-many-seals")
+
+-- no receipt answers this assumption call
+abbrev pub no_receipt_lines : ℕ → List ℕ
+no_receipt_lines call = line (codes "no-receipt " ++ decimal call)

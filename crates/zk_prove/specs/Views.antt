@@ -1,7 +1,18 @@
--- What a `Job` is seen as.
-use Rattle.zk_prove.specs.declared.job.Job.{Job as Named}
-use Rattle.zk_prove.specs.Words.{Job}
+-- What the jobs and the answers are seen as.
+use Rattle.std.specs.Prelude.{ℕ, List, Option, option_map}
+use Rattle.zk_prove.specs.declared.job.Job.{Job as NamedJob}
+use Rattle.zk_prove.specs.declared.job.Proof.{Proof as NamedProof}
+use Rattle.zk_prove.specs.Words.{Job, Proof}
+use Rattle.byte_cursor.specs.Growing.{Growing}
+use Rattle.cli_text.specs.Ends.{Kept}
 
--- the job without where its names lie in memory
-abbrev pub job : Named → Job
+-- a job without where its names lie in memory
+abbrev pub job : NamedJob → Job
 job named = record { elf = named.elf.now; input = named.input.now; limit = named.limit }
+
+abbrev pub proof : NamedProof → Proof
+proof named = record { elf = named.elf.now; input = named.input.now; receipt = named.receipt.now; limits = named.limits }
+
+-- the receipt, if there is one, under its name
+abbrev pub kept : List ℕ → Option (Growing ℕ) → Option Kept
+kept name receipt = option_map (λ bytes. record { name = name; bytes = bytes.items }) receipt

@@ -1,9 +1,8 @@
-ghost use Rattle.std.specs.Prelude.{IfOk, string_bytes};
+ghost use Rattle.std.specs.Prelude.{string_bytes, IfOk};
 ghost use Rattle.elf_image.specs.Loaded.{image_of};
-ghost use Rattle.zk_prove.specs.Answers.{IsExecuted, AnswersInput};
+ghost use Rattle.zk_prove.specs.Answers.{IsExecuted};
 
-use crate::input::input_words;
-use crate::texts::{bad_input, faulted_text, halted_text, over_limit_text};
+use crate::texts::{faulted_text, halted_text, over_limit_text};
 use byte_cursor::WordList;
 use cli_text::{Printed, Status};
 use elf_image::Image;
@@ -11,23 +10,13 @@ use flat_machine::Flat;
 use rv_step::Outcome;
 use std::alloc::{AllocError, Global};
 
-// The answer to the bytes of an input file, for an image and a limit.
-pub(crate) fn answer_input(
+// The answer of the uncut run of an image and input words under a limit.
+pub(crate) fn execute(
     alloc: Global,
     image: Image,
+    words: WordList,
     limit: u64,
-    bytes: &[u8],
 ) -> Result<Printed, AllocError>
-    ensures { IfOk result (λ printed. AnswersInput (image_of image) limit bytes.now printed.status (string_bytes printed.text)) }
-{
-    match input_words(alloc, bytes)? {
-        Some(words) => execute(alloc, image, words, limit),
-        None => bad_input(alloc, bytes.len()),
-    }
-}
-
-// The answer of the uncut run of an image and input words under a limit.
-fn execute(alloc: Global, image: Image, words: WordList, limit: u64) -> Result<Printed, AllocError>
     ensures { IfOk result (λ printed. IsExecuted (image_of image) words.items limit printed.status (string_bytes printed.text)) }
 {
     let mut flat = Flat::new(alloc, image, words);

@@ -1,5 +1,5 @@
 ghost use Rattle.std.specs.Prelude.{◌≡◌, ◌≢◌, ◌%◌, length, IfOk, IfSome, IfNone};
-ghost use Rattle.zk_prove.specs.Answers.{IsInput};
+ghost use Rattle.zk_prove.specs.Guests.{IsInput};
 
 use byte_cursor::{Cursor, WordList};
 use std::alloc::{AllocError, Global};

@@ -1,10 +1,17 @@
-//! Runs guests: the uncut run of a guest's ELF file on an input file, under a limit on its cost.
+//! Runs guests, and proves their runs: the uncut run of a guest's ELF file on an input file, under a limit on its cost, and
+//! the receipt of such a run.
 #![tactic(auto)]
 
 mod execute;
 mod gate;
+mod guest;
 mod input;
 mod job;
+#[cfg(test)]
+mod made;
+#[cfg(test)]
+mod prove_tests;
+mod proving;
 #[cfg(test)]
 mod tests;
 mod texts;

@@ -1,78 +1,12 @@
 //! Uncut runs over a desk and a sink in memory.
-ghost use Rattle.std.specs.Prelude.{◌≡◌, IfOk};
 
+use crate::made::{HALTS_7, USAGE, byte_list, bytes_of, elf, listed, words_of};
 use crate::top::exec_top;
-use byte_cursor::{ByteList, Out, WordList};
+use byte_cursor::{ByteList, Out};
 use cli_text::Status;
 use outside::{MemDesk, MemFile, MemFiles, MemSink};
 use std::alloc::{AllocError, Global};
 use std::test::Fail;
-
-const USAGE: &str =
-    "usage: zk_prove prove ELF INPUT RECEIPT [CYCLES PAGES LIMIT WORKERS [OTHER...]] | exec ELF INPUT LIMIT | generate NUMBER SIZE CYCLES PAGES WORKERS\n";
-
-// ADDI x17, x0, 0; ADDI x10, x0, 7; ECALL: HALT with 7.
-const HALTS_7: [u32; 3] = [0x893, 0x700513, 0x73];
-
-fn byte_list(alloc: Global, bytes: &[u8]) -> Result<ByteList, AllocError>
-    ensures { IfOk result (λ list. list.items ≡ bytes.now) }
-{
-    let mut out = Out::new(alloc);
-    out.put_all(bytes)?;
-    Ok(out.finish())
-}
-
-fn listed(alloc: Global, number: u32) -> Result<WordList, AllocError> {
-    let mut numbers = WordList::new(alloc);
-    numbers.push(number)?;
-    Ok(numbers)
-}
-
-fn bytes_of(alloc: Global, words: &[u32]) -> Result<ByteList, AllocError> {
-    let mut out = Out::new(alloc);
-    for word in words {
-        out.put_u32(*word)?;
-    }
-    Ok(out.finish())
-}
-
-// The ELF file of a guest whose code stands at 0x1000, by hand.
-fn elf(alloc: Global, code: &[u32]) -> Result<ByteList, AllocError> {
-    let Ok(size) = u32::try_from(code.len().saturating_mul(4)) else {
-        return Err(AllocError);
-    };
-    let headers = [
-        0x464C_457F,
-        0x0001_0101,
-        0,
-        0,
-        0x00F3_0002,
-        1,
-        0x1000,
-        52,
-        0,
-        0,
-        0x0020_0034,
-        1,
-        0,
-        1,
-        84,
-        0x1000,
-        0x1000,
-        size,
-        size,
-        7,
-        4,
-    ];
-    let mut out = Out::new(alloc);
-    for word in headers {
-        out.put_u32(word)?;
-    }
-    for word in code {
-        out.put_u32(*word)?;
-    }
-    Ok(out.finish())
-}
 
 // Answers the words over a file `e` and a file `i`; of the desk's and the sink's calls one fails, 0 being none.
 fn answered(
@@ -96,10 +30,7 @@ fn answered(
     })?;
     let mut desk = MemDesk::new(alloc, files, listed(alloc, read)?)?;
     let mut sink = MemSink::new(alloc, 1_000, listed(alloc, put)?)?;
-    let mut words = Vec::new(alloc);
-    for text in texts {
-        words.push(String::from_str(alloc, text)?)?;
-    }
+    let words = words_of(alloc, texts)?;
     let status = exec_top(alloc, words.as_slice(), &mut desk, &mut sink);
     Ok((status, sink))
 }

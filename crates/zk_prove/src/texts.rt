@@ -1,7 +1,7 @@
 //! The lines of the answers.
 ghost use Rattle.std.specs.Prelude.{◌≡◌, length, string_bytes, IfOk};
 ghost use Rattle.cli_text.specs.declared.status.Status.TheVariants.{Words, BadFile};
-ghost use Rattle.zk_prove.specs.Lines.{usage_lines, bad_input_lines, halted_lines, faulted_lines, over_limit_lines};
+ghost use Rattle.zk_prove.specs.Lines.{usage_lines, bad_input_lines, halted_lines, faulted_lines, over_limit_lines, too_many_seals_lines, no_receipt_lines};
 
 use cli_text::{Printed, Status, fault_text, hex_word, journal_text};
 use flat_machine::Flat;
@@ -60,4 +60,18 @@ pub(crate) fn over_limit_text(alloc: Global, step: u64) -> Result<String, AllocE
     ensures { IfOk result (λ text. string_bytes text ≡ over_limit_lines step) }
 {
     format!(in alloc; "over-limit {step}\n")
+}
+
+// The line of a run that has too many segments.
+pub(crate) fn too_many_seals(alloc: Global) -> Result<String, AllocError>
+    ensures { IfOk result (λ text. string_bytes text ≡ too_many_seals_lines) }
+{
+    String::from_str(alloc, "too-many-seals\n")
+}
+
+// The line of a run this call of which no receipt answers.
+pub(crate) fn no_receipt(alloc: Global, call: u64) -> Result<String, AllocError>
+    ensures { IfOk result (λ text. string_bytes text ≡ no_receipt_lines call) }
+{
+    format!(in alloc; "no-receipt {call}\n")
 }

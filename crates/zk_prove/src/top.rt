@@ -1,28 +1,28 @@
-ghost use Rattle.std.specs.Prelude.{◌≡◌, ◌+◌, ◌≤◌, ◌⊎◌, map, string_bytes, IfOk, IfErr};
+ghost use Rattle.std.specs.Prelude.{◌≡◌, ℕ, ◌+◌, ◌≤◌, ◌⊎◌, List, Option, map, string_bytes, IfOk, IfErr, OnOk, OnErr};
 ghost use Rattle.outside.specs.Faults.{Rose};
-ghost use Rattle.elf_image.specs.Loaded.{Loads, image_of};
-ghost use Rattle.cli_text.specs.Ends.{Ends, IsPrinted};
-ghost use Rattle.zk_prove.specs.Views.{job as seen};
-ghost use Rattle.zk_prove.specs.Answers.{Answers, AnswersJob, IsOfFile, IsBadElf};
-ghost use Rattle.zk_prove.specs.Ends.{OnFiles, IsHaltedPut};
+ghost use Rattle.cli_text.specs.Ends.{Ends, EndsWriting, IsPrinted, MayFailWrite, written};
+ghost use Rattle.zk_prove.specs.Views.{job as seen, proof as seen_proof, kept};
+ghost use Rattle.zk_prove.specs.Answers.{Answers, AnswersJob};
+ghost use Rattle.zk_prove.specs.Proving.{AnswersAll, AnswersProof};
+ghost use Rattle.zk_prove.specs.Ends.{OnFiles, IsHaltedPut, IsProvedPut};
 
-use crate::execute::answer_input;
+use crate::execute::execute;
 use crate::gate::Gate;
-use crate::job::{Job, parse};
+use crate::guest::read_guest;
+use crate::job::{Job, Proof, parse, parse_proof};
+use crate::proving::{Answer, prove_guest};
 use crate::texts::usage;
-use byte_cursor::ByteList;
 use cli_text::{Printed, Status, or_memory};
 use digest_core::Digester;
-use elf_image::{ElfStop, Image, load};
-use outside::{Desk, ReadAllStop, Sink, read_all};
+use outside::{Desk, Failed, Sink};
 use std::alloc::{AllocError, Global};
 use std::sync::Wait;
 use std::thread::Threads;
 
-// The most bytes of a file that is read.
-const MOST_BYTES: u64 = 67_108_864;
-
-/// Answers the words, as `exec_top` does: other commands have no words yet.
+/// Answers the words `prove`, the names of an ELF file, an input file and a receipt, the most that a segment costs, the most
+/// pages that it touches, a limit and the number of workers, which is 0: runs the guest on the input's words under the
+/// limit on its cost, writes the receipt of its run and prints its report in one put. Answers other words as `exec_top`
+/// does. No file is written where it refuses.
 pub fn prove_top<D: Digester, K: Desk, O: Sink, G: Gate, R: Threads + Wait + Sync>(
     _rt: &R,
     alloc: Global,
@@ -31,15 +31,90 @@ pub fn prove_top<D: Digester, K: Desk, O: Sink, G: Gate, R: Threads + Wait + Syn
     out: &mut O,
     _gate: &G,
 ) -> Status
-    ensures halted { result ≡ Status.Done → OnFiles (K.contents desk.old) (λ files. IsHaltedPut (map string_bytes words.now) files (O.taken out.old) (O.taken out.new)) }
-    ensures answer { Ends (Answers (map string_bytes words.now) (K.contents desk.old)) result (O.taken out.old) (O.taken out.new) }
+    // With status 0 the words are those of `exec`, and the uncut run of the image and the input that the files hold, where told, halts within the
+    // limit and has its lines appended to the sink; or they are those of `prove`, and the receipt's name holds exactly the bytes that spell the
+    // bundle of that run's segments, whose chain is the run's claim, and which is accepted under the image's id; and the lines of its report are
+    // appended.
+    ensures done { result ≡ Status.Done → OnFiles (K.contents desk.old) (λ files.
+        IsHaltedPut (map string_bytes words.now) files (O.taken out.old) (O.taken out.new)
+        ⊎ IsProvedPut D.digest_of (map string_bytes words.now) files (K.contents desk.new) (O.taken out.old) (O.taken out.new)) }
+
+    // The status, the lines and what is written are those of an answer, but for a fault and want of memory.
+    ensures answer { EndsWriting (AnswersAll D.digest_of (map string_bytes words.now) (K.contents desk.old)) result (K.contents desk.old) (K.contents desk.new) (O.taken out.old) (O.taken out.new) }
     ensures read_fault { result ≡ Status.ReadFault → Rose (K.read_faults desk.old) (K.read_faults desk.new) }
-    ensures write_fault { result ≡ Status.WriteFault → Rose (O.faults out.old) (O.faults out.new) }
+    ensures write_fault { result ≡ Status.WriteFault → Rose (K.write_faults desk.old) (K.write_faults desk.new) ⊎ Rose (O.faults out.old) (O.faults out.new) }
 
     ensures one_put { O.calls out.new ≤ O.calls out.old + 1 }
-    ensures files { K.contents desk.new ≡ K.contents desk.old }
 {
-    exec_top(alloc, words, desk, out)
+    match parse_proof(alloc, words) {
+        Ok(Some(proof)) => prove::<D, K, O>(alloc, &proof, desk, out),
+        Ok(None) => exec_top(alloc, words, desk, out),
+        Err(AllocError) => Status::Memory,
+    }
+}
+
+// Answers a proof.
+fn prove<D: Digester, K: Desk, O: Sink>(
+    alloc: Global,
+    proof: &Proof,
+    desk: &mut K,
+    out: &mut O,
+) -> Status
+    ensures answer { EndsWriting (AnswersProof D.digest_of (seen_proof proof.now) (K.contents desk.old)) result (K.contents desk.old) (K.contents desk.new) (O.taken out.old) (O.taken out.new) }
+    ensures read_fault { result ≡ Status.ReadFault → Rose (K.read_faults desk.old) (K.read_faults desk.new) }
+    ensures write_fault { result ≡ Status.WriteFault → Rose (K.write_faults desk.old) (K.write_faults desk.new) ⊎ Rose (O.faults out.old) (O.faults out.new) }
+    ensures one_put { O.calls out.new ≤ O.calls out.old + 1 }
+{
+    match answer_proof::<D, K>(alloc, proof, desk) {
+        Err(silent) => silent,
+        Ok(answer) => {
+            if write_receipt(desk, proof.receipt, &answer).is_err() {
+                return Status::WriteFault;
+            }
+            match out.put(answer.printed.text.as_bytes()) {
+                Ok(()) => answer.printed.status,
+                Err(_) => Status::WriteFault,
+            }
+        }
+    }
+}
+
+// Writes the receipt of an answer under this name, if there is one.
+fn write_receipt<K: Desk>(desk: &mut K, name: &str, answer: &Answer) -> Result<(), Failed>
+    ensures done { OnOk result (K.contents desk.new ≡ written (kept name.now answer.now.receipt) (K.contents desk.old)) }
+    ensures failed { OnErr result ((taken : Option (List ℕ)) → MayFailWrite (kept name.now answer.now.receipt) (K.contents desk.old) (K.contents desk.new) taken taken) }
+    ensures fault { OnErr result (Rose (K.write_faults desk.old) (K.write_faults desk.new)) }
+{
+    match &answer.receipt {
+        Some(receipt) => desk.write(name, receipt.as_slice()),
+        None => Ok(()),
+    }
+}
+
+// The answer to a proof, or the status of an end that prints nothing.
+fn answer_proof<D: Digester, K: Desk>(
+    alloc: Global,
+    proof: &Proof,
+    desk: &mut K,
+) -> Result<Answer, Status>
+    ensures answer { IfOk result (λ answer. AnswersProof D.digest_of (seen_proof proof.now) (K.contents desk.old) answer.printed.status (string_bytes answer.printed.text) (kept proof.now.receipt.now answer.receipt)) }
+    ensures printed { IfOk result (λ answer. IsPrinted answer.printed.status) }
+    ensures silent { IfErr result (λ status. (status ≡ Status.Memory) ⊎ ((status ≡ Status.ReadFault) × Rose (K.read_faults desk.old) (K.read_faults desk.new))) }
+    ensures files { K.contents desk.new ≡ K.contents desk.old }
+    ensures writes { K.write_faults desk.new ≡ K.write_faults desk.old }
+{
+    match read_guest(alloc, desk, proof.elf, proof.input)? {
+        Err(printed) => Ok(Answer {
+            printed,
+            receipt: None,
+        }),
+        Ok(guest) => {
+            match prove_guest::<D>(alloc, guest.image, guest.words, proof.limits, proof.receipt) {
+                Ok(answer) => Ok(answer),
+                Err(_) => Err(Status::Memory),
+            }
+        }
+    }
 }
 
 /// Answers the words `exec`, an ELF file's name, an input file's name and a limit: runs the guest on the input's words under
@@ -92,53 +167,8 @@ fn answer_job<K: Desk>(alloc: Global, job: &Job, desk: &mut K) -> Result<Printed
     ensures silent { IfErr result (λ status. (status ≡ Status.Memory) ⊎ ((status ≡ Status.ReadFault) × Rose (K.read_faults desk.old) (K.read_faults desk.new))) }
     ensures files { K.contents desk.new ≡ K.contents desk.old }
 {
-    let elf = match read_file(alloc, desk, job.elf)? {
-        Ok(bytes) => bytes,
-        Err(printed) => return Ok(printed),
-    };
-    let image = match load_image(alloc, elf.as_slice())? {
-        Ok(image) => image,
-        Err(printed) => return Ok(printed),
-    };
-    match read_file(alloc, desk, job.input)? {
-        Ok(bytes) => or_memory(answer_input(alloc, image, job.limit, bytes.as_slice())),
+    match read_guest(alloc, desk, job.elf, job.input)? {
+        Ok(guest) => or_memory(execute(alloc, guest.image, guest.words, job.limit)),
         Err(printed) => Ok(printed),
-    }
-}
-
-// The image that an ELF file loads; or the answer where it loads none, or the status of want of memory.
-fn load_image(alloc: Global, bytes: &[u8]) -> Result<Result<Image, Printed>, Status>
-    ensures loaded { IfOk result (λ answer. IfOk answer (λ image. Loads bytes.now (image_of image))) }
-    ensures bad { IfOk result (λ answer. IfErr answer (λ printed. IsBadElf bytes.now printed.status (string_bytes printed.text))) }
-    ensures silent { IfErr result (λ status. status ≡ Status.Memory) }
-{
-    match load(alloc, bytes) {
-        Ok(image) => Ok(Ok(image)),
-        Err(ElfStop::Memory) => Err(Status::Memory),
-        Err(stop) => match Printed::bad_elf(alloc, stop) {
-            Ok(printed) => Ok(Err(printed)),
-            Err(_) => Err(Status::Memory),
-        },
-    }
-}
-
-// The bytes of a file of at most 2^26 bytes; or the answer where it isn't there or is longer, or the status of an end that
-// prints nothing.
-fn read_file<K: Desk>(
-    alloc: Global,
-    desk: &mut K,
-    name: &str,
-) -> Result<Result<ByteList, Printed>, Status>
-    ensures file { IfOk result (λ read. IsOfFile name.now (K.contents desk.old) read) }
-    ensures silent { IfErr result (λ status. (status ≡ Status.Memory) ⊎ ((status ≡ Status.ReadFault) × Rose (K.read_faults desk.old) (K.read_faults desk.new))) }
-    ensures files { K.contents desk.new ≡ K.contents desk.old }
-    ensures reads { K.read_faults desk.old ≤ K.read_faults desk.new }
-{
-    match read_all(alloc, desk, name, MOST_BYTES) {
-        Ok(bytes) => Ok(Ok(bytes)),
-        Err(ReadAllStop::NoFile) => Ok(Err(or_memory(Printed::no_file(alloc, name))?)),
-        Err(ReadAllStop::TooLong) => Ok(Err(or_memory(Printed::too_long(alloc, name))?)),
-        Err(ReadAllStop::Fault) => Err(Status::ReadFault),
-        Err(ReadAllStop::Memory) => Err(Status::Memory),
     }
 }

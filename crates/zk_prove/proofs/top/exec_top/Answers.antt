@@ -8,7 +8,7 @@ use Rattle.zk_prove.proofs.top.exec_top.Goals as goal
 
 pub returns-in-Ok-put-clause-halted : goal.returns-in-Ok-put-clause-halted
 returns-in-Ok-put-clause-halted g c done =
-    done_halted c.in-Ok.printed.status (string_bytes c.in-Ok.printed.text) done (map string_bytes c.args.words.now) (g.K.Desk.contents c.args.desk.now) _ _ c.in-Ok.ensures.answer
+    done_halted (map string_bytes c.args.words.now) (g.K.Desk.contents c.args.desk.now) c.in-Ok.printed.status (string_bytes c.in-Ok.printed.text) _ _ done c.in-Ok.ensures.answer
     (c.in-Ok-put.ensures.told ∙ ap (append_known (g.O.Sink.taken c.args.out.now)) c.as_bytes.ensures.value)
 
 pub returns-in-Ok-put-clause-answer : goal.returns-in-Ok-put-clause-answer

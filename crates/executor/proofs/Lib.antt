@@ -1,0 +1,10 @@
+pub mod Ordered
+pub mod Cutting
+pub mod Covered
+pub mod Forward
+pub mod Replays
+pub mod Claimed
+pub mod Limited
+pub mod UnderWay
+pub mod Sealed
+pub mod Onward

@@ -1,0 +1,228 @@
+-- The seal of a segment that is whole. H is the digest function.
+use Rattle.std.proofs.Common.{◌≡◌, ◌⊎◌, inl, inr, ℕ, zero, suc, ◌+◌, ◌-◌, ◌%◌, ◌^◌, ◌<◌, ◌≤◌, true, false, List, [], ◌∷◌, ◌++◌, length, take, drop, Option, Some, None, IsTrue, refl, sym, ap, ap₂, ◌∙◌, subst, arith, length-append, append-nil, append_assoc, eqb, cond}
+use Rattle.std.specs.Prelude.{All, unwrap_or}
+use Rattle.page_core.specs.Images.{Image}
+use Rattle.page_core.specs.Memory.{ascending, contains}
+use Rattle.page_core.specs.Memories.{page_of}
+use Rattle.page_core.specs.Stored.{Stored, IsStoredFrom, stored_at, stored_pages, memory_of}
+use Rattle.page_core.proofs.Bytes.{page_same, bytes_hold_pages}
+use Rattle.page_core.proofs.Listed.{or_right, tells_contains}
+use Rattle.page_core.specs.Pages.{IsPage, ArePages, zero_page}
+use Rattle.page_tree.proofs.Held.{zeros_are}
+use Rattle.part_tree.specs.Part.{Part, part_of}
+use Rattle.part_tree.specs.Canonical.{IsCanonical}
+use Rattle.page_tree.specs.Grown.{AscendFrom}
+use Rattle.page_tree.proofs.Parted.{same_part}
+use Rattle.rv_step.specs.Machine.{State, Halted, step_of, full}
+use Rattle.rv_step.specs.Laws.{IsReady}
+use Rattle.rv_step.specs.Runs.{start, after, touched}
+use Rattle.rv_step.proofs.Runs.{after-add}
+use Rattle.claim_types.specs.declared.claim.Exit.{Exit}
+use Rattle.claim_types.specs.declared.claim.Exit.TheVariants.{Split, Halted as HaltedWith}
+use Rattle.receipt_types.specs.Seals.{Seal}
+use Rattle.receipt_types.specs.Bundles.{item}
+use Rattle.flat_machine.specs.Going.{Going, state_of, gone_in, HaltsWith, Stands as IsRun}
+use Rattle.seal_replay.specs.Replay.{stop_of}
+use Rattle.executor.specs.Segments.{done_in, segments, lengths}
+use Rattle.executor.specs.Proving.{read_by, read_at, used, seal_from, seals_from, cut_seals, Ends}
+use Rattle.executor.specs.Cutting.{Beginning, Cutting, BeginsAt, IsBegun, IsUnderWay, IsOver, Stands, IsLongest, IsWhole, IsCutting, IsCut}
+use Rattle.executor.proofs.Cutting.{run_ready, before_end, fits_tells, segments_some, item-seals_from, ascending_has}
+use Rattle.executor.proofs.Ordered.{Ascend, ascends, ascending_some}
+use Rattle.executor.proofs.Limited.{used_few, steps_cost, touched_low, touched_registers}
+use Rattle.executor.proofs.Claimed.{stretches_replay}
+use Rattle.executor.proofs.Forward.{run_words, halt_takes}
+
+-- ---- where a segment ends
+-- how so many steps from s end, and which words are left then
+pub record EndsThere (s : State) (n : ℕ) (words : List ℕ) : Type 0 where
+  pub exit : Exit
+  pub z : State
+  pub ends : Ends s n exit z
+  pub words_are : s.words ≡ used s n ++ words
+  pub each : (k : ℕ) → k < n → (u : State) × (after s k ≡ Some u)
+
+-- a halt reads no word
+read_none : (z : State) (code : ℕ) → step_of z ≡ Halted code → read_by z ≡ []
+unfolding read_by
+read_none z code halts = ap (λ (n : ℕ). take n z.words) (halt_takes z code halts)
+
+words_halted : (s : State) (n : ℕ) (z : State) (code : ℕ) → 1 ≤ n → after s (n - 1) ≡ Some z → step_of z ≡ Halted code → s.words ≡ used s n ++ z.words
+unfolding used
+words_halted s zero z code some at halts = absurd (omega arith)
+words_halted s (suc m) z code some at halts =
+    let there : after s m ≡ Some z = ap (after s) (omega arith) ∙ at in
+    let none : read_at (after s m) ≡ [] = ap read_at there ∙ read_none z code halts in
+    run_words s m z there ∙ ap (λ (ws : List ℕ). ws ++ z.words) (sym (ap (λ (ws : List ℕ). used s m ++ ws) none ∙ append-nil (used s m)))
+
+ends_there : (g : Going) (image : Image) (words : List ℕ) → IsRun g image words → (b n : ℕ) (s : State) → after (start image words) b ≡ Some s → g.steps ≡ b + n → 1 ≤ n → EndsThere s n g.words
+ends_there g image words run b n s reached steps some = go g.halted refl
+  where
+    go : (o : Option ℕ) → g.halted ≡ o → EndsThere s n g.words
+    go None on =
+        let at : after s n ≡ Some (state_of g) =
+        sym (after-add (start image words) b n s reached) ∙ ap (after (start image words)) (sym steps) ∙ ap (λ (o : Option ℕ). after (start image words) (gone_in g.steps o)) (sym on) ∙ run.reached in
+        record { exit = Split; z = state_of g; ends = at; words_are = run_words s n (state_of g) at; each = λ k low. before_end s n (state_of g) k at (omega (arith, low)) }
+    go (Some code) halted =
+        let halts : (1 ≤ g.steps) × (step_of (state_of g) ≡ Halted code) = subst (λ (o : Option ℕ). HaltsWith (state_of g) g.steps o) halted run.halts in
+        let last : b + (n - 1) ≡ g.steps - 1 = omega (arith, steps, some) in
+        let at : after s (n - 1) ≡ Some (state_of g) =
+        sym (after-add (start image words) b (n - 1) s reached) ∙ ap (after (start image words)) last ∙ ap (λ (o : Option ℕ). after (start image words) (gone_in g.steps o)) (sym halted) ∙ run.reached in
+        record { exit = HaltedWith code; z = state_of g; ends = (at, halts.1); words_are = words_halted s n (state_of g) code some at halts.1; each = λ k low. before_end s (n - 1) (state_of g) k at (omega (arith, low, some)) }
+
+-- ---- the parts of its seal
+append-left : (xs ys zs ws : List ℕ) → xs ++ ys ≡ zs ++ ws → length xs ≡ length zs → xs ≡ zs
+append-left [] ys [] ws e same = refl
+append-left [] ys (z ∷ zs) ws e same = absurd (omega (arith, same))
+append-left (x ∷ xs) ys [] ws e same = absurd (omega (arith, same))
+append-left (x ∷ xs) ys (z ∷ zs) ws e same = ap₂ (λ (a : ℕ) (l : List ℕ). a ∷ l) (first x z (xs ++ ys) (zs ++ ws) e) (append-left xs ys zs ws (rest x z (xs ++ ys) (zs ++ ws) e) (omega (arith, same)))
+  where
+    first : (x z : ℕ) (xs zs : List ℕ) → ◌≡◌ {A = List ℕ} (x ∷ xs) (z ∷ zs) → x ≡ z
+    first x z xs zs e = cc
+
+    rest : (x z : ℕ) (xs zs : List ℕ) → ◌≡◌ {A = List ℕ} (x ∷ xs) (z ∷ zs) → xs ≡ zs
+    rest x z xs zs e = cc
+
+drop-append : (xs ys : List ℕ) → drop (length xs) (xs ++ ys) ≡ ys
+drop-append [] ys = refl
+drop-append (x ∷ xs) ys = drop-append xs ys
+
+-- the words that were read since the segment began
+pub words_read : (g : Going) (image : Image) (words : List ℕ) → IsRun g image words → (b n : ℕ) (s : State) → after (start image words) b ≡ Some s → s.words ≡ used s n ++ g.words → (read : ℕ) → read ≡ length (used (start image words) b)
+    → drop read g.read ≡ used s n
+words_read g image words run b n s reached left read is =
+    let earlier : List ℕ = used (start image words) b in
+    let all : g.read ++ g.words ≡ (earlier ++ used s n) ++ g.words =
+    run.all ∙ run_words (start image words) b s reached ∙ ap (λ (ws : List ℕ). earlier ++ ws) left ∙ sym (append_assoc earlier (used s n) g.words) in
+    let sizes : length g.read + length g.words ≡ length (earlier ++ used s n) + length g.words =
+    sym (length-append g.read g.words) ∙ ap length all ∙ length-append (earlier ++ used s n) g.words in
+    let parts : g.read ≡ earlier ++ used s n = append-left g.read g.words (earlier ++ used s n) g.words all (omega (arith, sizes)) in
+    ap₂ (λ (n : ℕ) (ws : List ℕ). drop n ws) is parts ∙ drop-append earlier (used s n)
+
+-- each page of a stored memory has its bytes
+pages_stored : (t : Stored) (least : ℕ) → IsStoredFrom least t → ArePages (stored_pages t)
+pages_stored [] least are n = zeros_are
+pages_stored (p ∷ ps) least are n =
+    elim (eqb n p.0) as (λ b. IsPage (unwrap_or (cond b (Some p.1) (stored_at ps n)) zero_page)) [ true ↦ are.2 | false ↦ pages_stored ps (p.0 + 1) are.3 n ]
+
+-- the tree of a stored memory is that of the state whose bytes it has
+pub tree_of : (H : List ℕ → List ℕ) (t : Stored) (s : State) (pages : List ℕ) → IsStoredFrom 0 t → ((a : ℕ) → memory_of t a ≡ full s a) → part_of H (stored_pages t) pages 18 0 ≡ part_of H (page_of (full s)) pages 18 0
+tree_of H t s pages are same =
+    same_part H (page_of (full s)) (stored_pages t) pages 18 0
+    (λ page below. sym (bytes_hold_pages (stored_pages t) page (pages_stored t 0 are)) ∙ page_same (memory_of t) (full s) page (λ a _. same a))
+
+-- ---- the pages that it opens
+pub ascend_from : (least : ℕ) (ps : List ℕ) → Ascend least ps → ((p : ℕ) → IsTrue (contains ps p) → p < 262144) → AscendFrom least ps
+ascend_from least [] up low = tt
+ascend_from least (p ∷ ps) up low =
+    (up.0, low p (tells_contains (p ∷ ps) p (0, omega arith, refl)), subst (λ (n : ℕ). AscendFrom n ps) (omega arith) (ascend_from (suc p) ps up.1 (λ q h. low q (or_right _ (contains ps q) h))))
+
+-- ---- the lengths of the segments, this one among them
+pub cuts_here : (r : State) (c : Cutting) (u : IsUnderWay r c) → IsLongest r c u → 1 ≤ c.steps
+    → lengths c.limits r ≡ u.given ++ c.steps ∷ segments c.limits (done_in c.limits.limit r - c.number - 1) (after u.s c.steps) (done_in c.limits.limit r - u.b - c.steps)
+cuts_here r c u whole some =
+    let most : done_in c.limits.limit r - c.number ≡ suc (done_in c.limits.limit r - c.number - 1) = omega (arith, u.fewer, u.within, some) in
+    u.cuts
+    ∙ ap (λ (ns : List ℕ). u.given ++ ns)
+    (ap (λ (k : ℕ). segments c.limits k (Some u.s) (done_in c.limits.limit r - u.b)) most
+    ∙ segments_some c.limits (done_in c.limits.limit r - c.number - 1) u.s (done_in c.limits.limit r - u.b) (omega (arith, u.within, some))
+    ∙ ap (λ (n : ℕ). n ∷ segments c.limits (done_in c.limits.limit r - c.number - 1) (after u.s n) (done_in c.limits.limit r - u.b - n)) whole.longest)
+
+-- ---- the seal
+module _ (H : List ℕ → List ℕ) (c : Cutting) (at : Beginning) (held : c.beginning ≡ Some at) (some : 1 ≤ c.steps) (pc : ℕ) (words' : List ℕ) (tree : Part)
+    (pc_is : pc ≡ at.pc) (words_are : words' ≡ drop at.read c.going.read) (tree_is : tree ≡ part_of H (stored_pages at.tree) c.meter.touched 18 0) where
+  abbrev pub made : Seal
+  made = record { pc = pc; steps = c.steps; words = words'; tree = tree }
+
+  seal_is : (image : Image) (words : List ℕ) → IsRun c.going image words → (u : IsUnderWay (start image words) c) → made ≡ seal_from H u.s c.steps
+  seal_is image words run u =
+      let begins : BeginsAt (start image words) u.b u.s (Some at) = subst (λ (o : Option Beginning). BeginsAt (start image words) u.b u.s o) held u.beginning in
+      let ends = ends_there c.going image words run u.b c.steps u.s u.reached u.steps some in
+      let one : pc ≡ u.s.pc = pc_is ∙ begins.0 in
+      let two : words' ≡ used u.s c.steps = words_are ∙ words_read c.going image words run u.b c.steps u.s u.reached ends.words_are at.read begins.1 in
+      let three : tree ≡ part_of H (page_of (full u.s)) (ascending (touched u.s c.steps)) 18 0 =
+      tree_is ∙ ap (λ (ps : List ℕ). part_of H (stored_pages at.tree) ps 18 0) u.touched ∙ tree_of H at.tree u.s (ascending (touched u.s c.steps)) begins.2 begins.3 in
+      λ i. record { pc = one i; steps = c.steps; words = two i; tree = three i }
+
+  -- it is the one of the run's seals whose number comes next
+  pub seal_next : (image : Image) (words : List ℕ) → (stands : Stands c image words) → IsWhole (start image words) c stands.segment → item (cut_seals H c.limits (start image words)) c.number ≡ Some made
+  seal_next image words stands whole = go stands.segment whole
+    where
+      go : (segment : IsUnderWay (start image words) c ⊎ IsOver (start image words) c) → IsWhole (start image words) c segment → item (cut_seals H c.limits (start image words)) c.number ≡ Some made
+      go (inl u) whole =
+          ap (λ (ns : List ℕ). item (seals_from H (Some (start image words)) ns) c.number) (cuts_here (start image words) c u whole some)
+          ∙ ap (item (seals_from H (Some (start image words)) (u.given ++ c.steps ∷ segments c.limits (done_in c.limits.limit (start image words) - c.number - 1) (after u.s c.steps) (done_in c.limits.limit (start image words) - u.b - c.steps)))) (sym u.number)
+          ∙ item-seals_from H (start image words) u.given c.steps _ u.s (ap (after (start image words)) u.at ∙ u.reached)
+          ∙ ap Some (sym (seal_is image words stands.run u))
+      go (inr over) whole = absurd (omega (arith, over.steps, some))
+
+  -- it keeps the limits of a receipt, and replays without a stop
+  pub is_cut : IsCutting c → All (λ word. word < 2 ^ 32) words' → IsCanonical tree → IsCut (record { number = c.number; seal = made })
+  is_cut h small canonical = go h.stands.segment
+    where
+      go : IsUnderWay (start h.image h.words) c ⊎ IsOver (start h.image h.words) c → IsCut (record { number = c.number; seal = made })
+      go (inl u) =
+          let same = seal_is h.image h.words h.stands.run u in
+          let ends = ends_there c.going h.image h.words h.stands.run u.b c.steps u.s u.reached u.steps some in
+          let ready : IsReady u.s = run_ready (start h.image h.words) u.b u.s h.ready u.reached in
+          let begins : BeginsAt (start h.image h.words) u.b u.s (Some at) = subst (λ (o : Option Beginning). BeginsAt (start h.image h.words) u.b u.s o) held u.beginning in
+          let pc : pc ≡ u.s.pc = pc_is ∙ begins.0 in
+          let two : length words' ≡ length (used u.s c.steps) = ap (λ (seal : Seal). length seal.words) same in
+          let bounds = fits_tells c.limits u.s c.steps u.fits in
+          record {
+            limits = record {
+              numbers = record {
+                aligned = ap (λ (n : ℕ). n % 4) pc ∙ ready.aligned;
+                is_word = omega (arith, pc, ready.is_word);
+                some_steps = omega (arith, some);
+                few_steps = omega (arith, steps_cost u.s c.steps ends.each, bounds.0, h.limits.most_cycles);
+                few_words = omega (arith, two, used_few u.s c.steps, bounds.0, h.limits.most_cycles);
+              };
+              are_words = small;
+              tree = canonical;
+            };
+            unstopped = ap stop_of same ∙ stretches_replay H u.s c.steps ends.exit ends.z ready (omega (arith, some)) ends.ends;
+          }
+      go (inr over) = absurd (omega (arith, over.steps, some))
+
+-- the pages that it opens are 1 to 4,096 of the memory's, ascending
+pub record AreOpened (pages : List ℕ) : Type 0 where
+  pub some : 1 ≤ length pages
+  pub few : length pages ≤ 4096
+  pub ascending : AscendFrom 0 pages
+
+pub opened_pages : (c : Cutting) → IsCutting c → 1 ≤ c.steps → AreOpened c.meter.touched
+opened_pages c h some = go h.stands.segment
+  where
+    go : IsUnderWay (start h.image h.words) c ⊎ IsOver (start h.image h.words) c → AreOpened c.meter.touched
+    go (inl u) =
+        let ready : IsReady u.s = run_ready (start h.image h.words) u.b u.s h.ready u.reached in
+        let bounds = fits_tells c.limits u.s c.steps u.fits in
+        let pages : List ℕ = touched u.s c.steps in
+        subst AreOpened (sym u.touched) (record {
+          some = ascending_some pages 262143 (touched_registers u.s c.steps (omega (arith, some)));
+          few = omega (arith, bounds.1, h.limits.most_pages);
+          ascending = ascend_from 0 (ascending pages) (ascends pages) (λ p e. touched_low u.s c.steps ready p (sym (ascending_has pages p) ∙ e));
+        })
+    go (inr over) = absurd (omega (arith, over.steps, some))
+
+-- it begins where words were read
+pub read_within : (c : Cutting) → IsCutting c → (at : Beginning) → c.beginning ≡ Some at → 1 ≤ c.steps → at.read ≤ length c.going.read
+read_within c h at held some = go h.stands.segment
+  where
+    go : IsUnderWay (start h.image h.words) c ⊎ IsOver (start h.image h.words) c → at.read ≤ length c.going.read
+    go (inl u) =
+        let begins : BeginsAt (start h.image h.words) u.b u.s (Some at) = subst (λ (o : Option Beginning). BeginsAt (start h.image h.words) u.b u.s o) held u.beginning in
+        let ends = ends_there c.going h.image h.words h.stands.run u.b c.steps u.s u.reached u.steps some in
+        let all : length c.going.read + length c.going.words ≡ length (used (start h.image h.words) u.b) + (length (used u.s c.steps) + length c.going.words) =
+        sym (length-append c.going.read c.going.words) ∙ ap length (h.stands.run.all ∙ run_words (start h.image h.words) u.b u.s u.reached ∙ ap (λ (ws : List ℕ). used (start h.image h.words) u.b ++ ws) ends.words_are)
+        ∙ length-append (used (start h.image h.words) u.b) (used u.s c.steps ++ c.going.words) ∙ ap (λ (n : ℕ). length (used (start h.image h.words) u.b) + n) (length-append (used u.s c.steps) c.going.words) in
+        omega (arith, begins.1, all)
+    go (inr over) = absurd (omega (arith, over.steps, some))
+
+-- a segment with a step has its beginning
+pub has_beginning : (c : Cutting) → IsCutting c → 1 ≤ c.steps → c.beginning ≡ None → ⊥
+has_beginning c h some none = go h.stands.segment
+  where
+    go : IsUnderWay (start h.image h.words) c ⊎ IsOver (start h.image h.words) c → ⊥
+    go (inl u) = let zero_steps : c.steps ≡ 0 = subst (λ (o : Option Beginning). IsBegun c.steps o) none u.begun in omega (arith, zero_steps, some)
+    go (inr over) = omega (arith, over.steps, some)

@@ -1,0 +1,426 @@
+-- The segment that is under way, from one call to the next.
+use Rattle.std.proofs.Common.{◌≡◌, ◌⊎◌, inl, inr, ℕ, suc, ◌+◌, ◌-◌, ◌*◌, ◌<◌, ◌≤◌, Bool, true, false, leb, List, [], ◌++◌, length, Option, Some, None, IsTrue, refl, sym, ap, ap₂, ◌∙◌, subst, arith, length-append}
+use Rattle.std.specs.Prelude.{is_some, replicate, ◌&&◌}
+use Rattle.page_core.specs.Images.{Image}
+use Rattle.page_core.specs.Memory.{ascending}
+use Rattle.page_core.specs.Stored.{IsStoredFrom, memory_of}
+use Rattle.host_calls.specs.Meters.{Metered, with_step, has_room}
+use Rattle.rv_isa.specs.Registers.{AreRegisters}
+use Rattle.rv_step.specs.Machine.{State, Halted, step_of, foot_of, step_cost, full}
+use Rattle.rv_step.specs.Laws.{IsReady}
+use Rattle.rv_step.specs.Runs.{start, after, spent, touched, pages_at, IsOutcome}
+use Rattle.rv_step.specs.declared.outcome.Outcome.{Outcome}
+use Rattle.rv_step.proofs.Runs.{same_some, step_back, after-add}
+use Rattle.seal_replay.proofs.Chains.{start_ready}
+use Rattle.flat_machine.specs.Going.{Going, state_of, gone, gone_in, HaltsWith, Stands as IsRun, DoesOne, DoesNone, EndsSo}
+use Rattle.executor.specs.Segments.{Limits, is_fault, done_in, fits, segments}
+use Rattle.executor.specs.Proving.{used}
+use Rattle.executor.specs.Laws.{AreLimits}
+use Rattle.executor.specs.Cutting.{Beginning, Cutting, BeginsAt, IsBegun, HasOutcome, IsUnderWay, IsOver, Stands, IsWhole, IsCutting, SameButBeginning}
+use Rattle.executor.proofs.Cutting.{run_ready, spent_next, done_at_from, done_in_from, fits_none, fits_tells, spent_least, longest_is, ascending_added}
+use Rattle.executor.proofs.Covered.{one_fits, done_to_outcome}
+use Rattle.executor.proofs.Forward.{run_words}
+
+-- ---- where a run is
+-- where no step has halted, all went
+pub went_all : (g : Going) (image : Image) (words : List ℕ) → IsRun g image words → g.halted ≡ None → after (start image words) g.steps ≡ Some (state_of g)
+went_all g image words run on = ap (λ (o : Option ℕ). after (start image words) (gone_in g.steps o)) (sym on) ∙ run.reached
+
+-- ---- a beginning
+pub stands_new : (c : Cutting) (image : Image) (words : List ℕ) → IsRun c.going image words → c.going.steps ≡ 0 → c.number ≡ 0 → c.beginning ≡ None → c.steps ≡ 0
+    → c.meter.cost ≡ 0 → c.meter.touched ≡ [] → c.outcome ≡ None → Stands c image words
+unfolding after spent touched ascending
+stands_new c image words run steps number beginning none cost pages outcome = record {
+  run = run;
+  segment = inl (record {
+    b = 0;
+    s = start image words;
+    reached = refl;
+    given = [];
+    cuts = ap (λ (n : ℕ). segments c.limits n (Some (start image words)) (done_in c.limits.limit (start image words))) (omega (arith, number))
+        ∙ ap (λ (n : ℕ). segments c.limits (done_in c.limits.limit (start image words) - c.number) (Some (start image words)) n) (omega arith);
+    number = sym number;
+    at = refl;
+    fewer = omega (arith, number);
+    steps = omega (arith, steps, none);
+    within = omega (arith, none);
+    fits = ap (fits c.limits (start image words)) none ∙ fits_none c.limits (start image words);
+    beginning = subst (λ (o : Option Beginning). BeginsAt (start image words) 0 (start image words) o) (sym beginning) tt;
+    begun = subst (λ (o : Option Beginning). IsBegun c.steps o) (sym beginning) none;
+    cost = cost ∙ ap (spent (start image words)) (sym none);
+    touched = pages ∙ ap (λ (n : ℕ). ascending (touched (start image words) n)) (sym none);
+    outcome = subst (λ (o : Option Outcome). HasOutcome c.limits.limit (start image words) (0 + c.steps) o) (sym outcome) tt;
+  });
+}
+
+-- the registers of a start
+pub zero_registers : AreRegisters (replicate 32 0)
+zero_registers = (start_ready (record { entry = 0; memory = λ _. 0 }) [] (record { aligned = refl; below = omega arith; bytes = λ a. omega arith; rest = λ a h. refl })).registers
+
+-- a run of no step has not halted
+unhalted : (s : State) (n : ℕ) (o : Option ℕ) → n ≡ 0 → HaltsWith s n o → o ≡ None
+unhalted s n None none halts = refl
+unhalted s n (Some code) none halts = absurd (omega (arith, none, halts.0))
+
+pub cutting_new : (c : Cutting) (image : Image) (words : List ℕ) → IsReady (start image words) → Stands c image words → c.going.steps ≡ 0 → c.going.cycles ≤ 257 * c.going.steps → c.number ≡ 0
+    → AreLimits c.limits → c.meter.cycles ≡ c.limits.cycles → c.meter.pages ≡ c.limits.pages → IsCutting c
+cutting_new c image words ready stands steps most number limits cycles pages = record {
+  image = image;
+  words = words;
+  ready = ready;
+  stands = stands;
+  limits = limits;
+  cycles = cycles;
+  pages = pages;
+  number = omega (arith, number);
+  within = omega (arith, most, steps);
+  halted = λ _. unhalted (state_of c.going) c.going.steps c.going.halted steps stands.run.halts;
+}
+
+-- ---- the run alone is another value of the same steps
+going_moved : (c : Cutting) (g : Going) (r : State) → g.steps ≡ c.going.steps → IsUnderWay r c ⊎ IsOver r c → IsUnderWay r (record c { going = g }) ⊎ IsOver r (record c { going = g })
+going_moved c g r same (inl u) = inl (record {
+  b = u.b;
+  s = u.s;
+  reached = u.reached;
+  given = u.given;
+  cuts = u.cuts;
+  number = u.number;
+  at = u.at;
+  fewer = u.fewer;
+  steps = same ∙ u.steps;
+  within = u.within;
+  fits = u.fits;
+  beginning = u.beginning;
+  begun = u.begun;
+  cost = u.cost;
+  touched = u.touched;
+  outcome = u.outcome;
+})
+going_moved c g r same (inr o) = inr (record { number = o.number; steps = o.steps; outcome = o.outcome; told = o.told; ends = o.ends })
+
+pub stands_moved : (c : Cutting) (g : Going) (image : Image) (words : List ℕ) → g.steps ≡ c.going.steps → IsRun g image words → Stands c image words → Stands (record c { going = g }) image words
+stands_moved c g image words same run stands = record { run = run; segment = going_moved c g (start image words) same stands.segment }
+
+pub cutting_moved : (c : Cutting) (g : Going) → DoesNone c.going g → ((image : Image) (words : List ℕ) → IsRun c.going image words → IsRun g image words) → IsCutting c → IsCutting (record c { going = g })
+cutting_moved c g none run h = record {
+  image = h.image;
+  words = h.words;
+  ready = h.ready;
+  stands = stands_moved c g h.image h.words none.steps (run h.image h.words h.stands.run) h.stands;
+  limits = h.limits;
+  cycles = h.cycles;
+  pages = h.pages;
+  number = h.number;
+  within = omega (arith, none.cycles, h.within);
+  halted = λ e. none.halted ∙ h.halted e;
+}
+
+-- ---- the beginning is held
+module _ (c : Cutting) (at : Beginning) (untold : c.outcome ≡ None) (on : c.going.halted ≡ None) (unheld : c.beginning ≡ None)
+    (pc : at.pc ≡ c.going.pc) (read : at.read ≡ length c.going.read) (stored : IsStoredFrom 0 at.tree) (memory : (a : ℕ) → memory_of at.tree a ≡ full (state_of c.going) a)
+    (image : Image) (words : List ℕ) (run : IsRun c.going image words) where
+  some_none : {A : Type 0} {B : Type 0} → (x : A) → Some x ≡ None → B
+  some_none x e = absurd (cc)
+
+  held : IsUnderWay (start image words) c ⊎ IsOver (start image words) c → IsUnderWay (start image words) (record c { beginning = Some at }) ⊎ IsOver (start image words) (record c { beginning = Some at })
+  held (inl u) =
+      let none : c.steps ≡ 0 = subst (λ (o : Option Beginning). IsBegun c.steps o) unheld u.begun in
+      let first : c.going.steps ≡ u.b = omega (arith, u.steps, none) in
+      let here : state_of c.going ≡ u.s = same_some _ _ (sym (went_all c.going image words run on) ∙ ap (after (start image words)) first ∙ u.reached) in
+      let all : words ≡ used (start image words) u.b ++ u.s.words = run_words (start image words) u.b u.s u.reached in
+      let sizes : length c.going.read + length c.going.words ≡ length (used (start image words) u.b) + length u.s.words =
+      sym (length-append c.going.read c.going.words) ∙ ap length (run.all ∙ all) ∙ length-append (used (start image words) u.b) u.s.words in
+      let rest : length c.going.words ≡ length u.s.words = ap (λ (s : State). length s.words) here in
+      inl (record {
+        b = u.b;
+        s = u.s;
+        reached = u.reached;
+        given = u.given;
+        cuts = u.cuts;
+        number = u.number;
+        at = u.at;
+        fewer = u.fewer;
+        steps = u.steps;
+        within = u.within;
+        fits = u.fits;
+        beginning = (pc ∙ ap (λ (s : State). s.pc) here, omega (arith, read, sizes, rest), stored, λ a. memory a ∙ ap (λ (s : State). full s a) here);
+        begun = tt;
+        cost = u.cost;
+        touched = u.touched;
+        outcome = u.outcome;
+      })
+  held (inr o) = some_none o.outcome (sym o.told ∙ untold)
+
+  pub stands_begun : Stands c image words → Stands (record c { beginning = Some at }) image words
+  stands_begun stands = record { run = run; segment = held stands.segment }
+
+pub none_held : {A : Type 0} (o : Option A) → is_some o ≡ false → o ≡ None
+none_held None h = refl
+none_held (Some x) h = absurd (cc)
+
+pub cutting_begun : (c : Cutting) (at : Beginning) → c.outcome ≡ None → c.beginning ≡ None → at.pc ≡ c.going.pc → at.read ≡ length c.going.read → IsStoredFrom 0 at.tree → ((a : ℕ) → memory_of at.tree a ≡ full (state_of c.going) a)
+    → IsCutting c → IsCutting (record c { beginning = Some at })
+cutting_begun c at untold unheld pc read stored memory h = record {
+  image = h.image;
+  words = h.words;
+  ready = h.ready;
+  stands = stands_begun c at untold (h.halted untold) unheld pc read stored memory h.image h.words h.stands.run h.stands;
+  limits = h.limits;
+  cycles = h.cycles;
+  pages = h.pages;
+  number = h.number;
+  within = h.within;
+  halted = h.halted;
+}
+
+-- ---- one step more
+touched-suc : (s : State) (n : ℕ) (u : State) → after s n ≡ Some u → touched s (suc n) ≡ touched s n ++ foot_of u
+unfolding touched
+touched-suc s n u here = ap (λ (o : Option State). touched s n ++ pages_at o) here
+
+touched_on : (s : State) (n : ℕ) (m : Metered) (u : State) → after s n ≡ Some u → m.touched ≡ ascending (touched s n) → ascending (touched s (suc n)) ≡ ascending (foot_of u ++ m.touched)
+touched_on s n m u here is = ap ascending (touched-suc s n u here) ∙ sym (ascending_added (touched s n) (foot_of u)) ∙ ap (λ (ps : List ℕ). ascending (foot_of u ++ ps)) (sym is)
+
+-- a meter is within its limits with the next step exactly where the segment fits with it
+room_fits : (l : Limits) (s : State) (n : ℕ) (m : Metered) (u : State) → after s n ≡ Some u → m.cycles ≡ l.cycles → m.pages ≡ l.pages → m.cost ≡ spent s n → m.touched ≡ ascending (touched s n)
+    → fits l s (suc n) ≡ has_room (foot_of u) (step_cost u) m
+unfolding fits
+room_fits l s n m u here cycles pages cost pages_are =
+    ap₂ (λ (a : Bool) (b : Bool). a && b)
+    (ap₂ leb (spent_next s n u here ∙ ap (λ (c : ℕ). c + step_cost u) (sym cost)) (sym cycles))
+    (ap₂ (λ (ps : List ℕ) (most : ℕ). leb (length ps) most) (touched_on s n m u here pages_are) (sym pages))
+
+-- an outcome's steps are all that are done
+pub has_outcome : (g : Going) (image : Image) (words : List ℕ) (limit : ℕ) (o : Outcome) → EndsSo g image words limit o → HasOutcome limit (start image words) g.steps (Some o)
+has_outcome g image words limit o ends = (ends.ends, ends.steps ∙ sym (done_to_outcome limit (start image words) o ends.ends))
+
+begun_any : (n : ℕ) (o : Option Beginning) → IsTrue (is_some o) → IsBegun n o
+begun_any n None h = absurd (cc)
+begun_any n (Some at) h = tt
+
+pub some_not_none : {A : Type 0} {B : Type 0} → (x : A) (o : Option A) → o ≡ Some x → o ≡ None → B
+some_not_none x o is none = absurd (cc)
+
+module _ (g h : Going) (image : Image) (words : List ℕ) (limit : ℕ) (on : g.halted ≡ None) (run : IsRun g image words) (after_run : IsRun h image words) (one : DoesOne g h) (keeps : h.cycles ≤ limit) where
+  here : after (start image words) g.steps ≡ Some (state_of g)
+  here = went_all g image words run on
+
+  no_fault : (o : Option ℕ) → h.halted ≡ o → is_fault (step_of (state_of g)) ≡ false
+  no_fault None is =
+      let next : after (start image words) (suc g.steps) ≡ Some (state_of h) = ap (after (start image words)) (omega (arith, one.steps)) ∙ went_all h image words after_run is in
+      let (u, before, went) = step_back (start image words) g.steps (state_of h) next in
+      ap (λ (s : State). is_fault (step_of s)) (same_some _ _ (sym here ∙ before)) ∙ ap is_fault went
+  no_fault (Some code) is =
+      let halts : (1 ≤ h.steps) × (step_of (state_of h) ≡ Halted code) = subst (λ (o : Option ℕ). HaltsWith (state_of h) h.steps o) is after_run.halts in
+      let there : after (start image words) g.steps ≡ Some (state_of h) =
+      ap (after (start image words)) (omega (arith, one.steps)) ∙ ap (λ (o : Option ℕ). after (start image words) (gone_in h.steps o)) (sym is) ∙ after_run.reached in
+      ap (λ (s : State). is_fault (step_of s)) (same_some _ _ (sym here ∙ there)) ∙ ap is_fault halts.1
+
+  -- so the step is done
+  pub step_done : g.steps < done_in limit (start image words)
+  step_done =
+      let all : spent (start image words) (suc g.steps) ≡ spent (start image words) g.steps + step_cost (state_of g) = spent_next (start image words) g.steps (state_of g) here in
+      let cost : h.cycles ≡ spent (start image words) (suc g.steps) = after_run.cost ∙ ap (spent (start image words)) (omega (arith, one.steps)) in
+      done_in_from limit (start image words) g.steps (done_at_from limit (spent (start image words) g.steps) _ (state_of g) here (omega (arith, all, cost, keeps)) (no_fault h.halted refl))
+
+-- one step more of the segment, which fits, with the outcome if it ended the run
+abbrev pub stepped : Cutting → Going → Metered → Option Outcome → Cutting
+stepped c g m o = record c { going = g; steps = c.steps + 1; meter = m; outcome = o }
+
+module _ (c : Cutting) (g : Going) (m : Metered) (o : Option Outcome) (untold : c.outcome ≡ None) (on : c.going.halted ≡ None) (held : IsTrue (is_some c.beginning)) (one : DoesOne c.going g) (keeps : g.cycles ≤ c.limits.limit)
+    (cycles : c.meter.cycles ≡ c.limits.cycles) (pages : c.meter.pages ≡ c.limits.pages) (foot : List ℕ) (cost : ℕ) (foot_is : foot ≡ foot_of (state_of c.going)) (cost_is : cost ≡ step_cost (state_of c.going))
+    (room : has_room foot cost c.meter ≡ true) (meter : m ≡ with_step foot cost c.meter) where
+  segment_stepped : (image : Image) (words : List ℕ) → IsRun c.going image words → IsRun g image words → HasOutcome c.limits.limit (start image words) g.steps o
+      → IsUnderWay (start image words) c ⊎ IsOver (start image words) c → IsUnderWay (start image words) (stepped c g m o) ⊎ IsOver (start image words) (stepped c g m o)
+  segment_stepped image words run after_run told (inl u) =
+      let at : after u.s c.steps ≡ Some (state_of c.going) = sym (after-add (start image words) u.b c.steps u.s u.reached) ∙ ap (after (start image words)) (sym u.steps) ∙ went_all c.going image words run on in
+      let more : c.steps + 1 ≡ suc c.steps = omega arith in
+      let total : g.steps ≡ u.b + (c.steps + 1) = omega (arith, one.steps, u.steps) in
+      let done : c.going.steps < done_in c.limits.limit (start image words) = step_done c.going g image words c.limits.limit on run after_run one keeps in
+      let fitting : has_room (foot_of (state_of c.going)) (step_cost (state_of c.going)) c.meter ≡ true = ap₂ (λ (f : List ℕ) (n : ℕ). has_room f n c.meter) (sym foot_is) (sym cost_is) ∙ room in
+      let metered : m ≡ with_step (foot_of (state_of c.going)) (step_cost (state_of c.going)) c.meter = meter ∙ ap₂ (λ (f : List ℕ) (n : ℕ). with_step f n c.meter) foot_is cost_is in
+      inl (record {
+        b = u.b;
+        s = u.s;
+        reached = u.reached;
+        given = u.given;
+        cuts = u.cuts;
+        number = u.number;
+        at = u.at;
+        fewer = u.fewer;
+        steps = total;
+        within = omega (arith, done, u.steps);
+        fits = ap (fits c.limits u.s) more ∙ room_fits c.limits u.s c.steps c.meter (state_of c.going) at cycles pages u.cost u.touched ∙ fitting;
+        beginning = u.beginning;
+        begun = begun_any (c.steps + 1) c.beginning held;
+        cost = ap (λ (x : Metered). x.cost) metered ∙ ap (λ (n : ℕ). n + step_cost (state_of c.going)) u.cost ∙ sym (spent_next u.s c.steps (state_of c.going) at) ∙ ap (spent u.s) (sym more);
+        touched = ap (λ (x : Metered). x.touched) metered ∙ sym (ap (λ (n : ℕ). ascending (touched u.s n)) more ∙ touched_on u.s c.steps c.meter (state_of c.going) at u.touched);
+        outcome = subst (λ (n : ℕ). HasOutcome c.limits.limit (start image words) n o) total told;
+      })
+  segment_stepped image words run after_run told (inr over) = some_not_none over.outcome c.outcome over.told untold
+
+  pub stands_stepped : (image : Image) (words : List ℕ) → IsRun g image words → HasOutcome c.limits.limit (start image words) g.steps o → Stands c image words → Stands (stepped c g m o) image words
+  stands_stepped image words after_run told stands = record { run = after_run; segment = segment_stepped image words stands.run after_run told stands.segment }
+
+  pub cutting_stepped : ((image : Image) (words : List ℕ) → IsRun c.going image words → IsRun g image words)
+      → ((image : Image) (words : List ℕ) → IsRun c.going image words → HasOutcome c.limits.limit (start image words) g.steps o)
+      → (o ≡ None → g.halted ≡ None) → IsCutting c → IsCutting (stepped c g m o)
+  cutting_stepped runs told off h = record {
+    image = h.image;
+    words = h.words;
+    ready = h.ready;
+    stands = stands_stepped h.image h.words (runs h.image h.words h.stands.run) (told h.image h.words h.stands.run) h.stands;
+    limits = h.limits;
+    cycles = ap (λ (x : Metered). x.cycles) meter ∙ h.cycles;
+    pages = ap (λ (x : Metered). x.pages) meter ∙ h.pages;
+    number = h.number;
+    within = keeps;
+    halted = off;
+  }
+
+-- ---- the outcome of a run whose next step isn't done
+abbrev pub ended : Cutting → Going → Outcome → Cutting
+ended c g o = record c { going = g; outcome = Some o }
+
+module _ (c : Cutting) (g : Going) (o : Outcome) (untold : c.outcome ≡ None) (none : DoesNone c.going g) where
+  segment_ended : (r : State) → HasOutcome c.limits.limit r g.steps (Some o) → IsUnderWay r c ⊎ IsOver r c → IsUnderWay r (ended c g o) ⊎ IsOver r (ended c g o)
+  segment_ended r told (inl u) = inl (record {
+    b = u.b;
+    s = u.s;
+    reached = u.reached;
+    given = u.given;
+    cuts = u.cuts;
+    number = u.number;
+    at = u.at;
+    fewer = u.fewer;
+    steps = none.steps ∙ u.steps;
+    within = u.within;
+    fits = u.fits;
+    beginning = u.beginning;
+    begun = u.begun;
+    cost = u.cost;
+    touched = u.touched;
+    outcome = subst (λ (n : ℕ). HasOutcome c.limits.limit r n (Some o)) (none.steps ∙ u.steps) told;
+  })
+  segment_ended r told (inr over) = some_not_none over.outcome c.outcome over.told untold
+
+  pub stands_ended : (image : Image) (words : List ℕ) → IsRun g image words → HasOutcome c.limits.limit (start image words) g.steps (Some o) → Stands c image words → Stands (ended c g o) image words
+  stands_ended image words run told stands = record { run = run; segment = segment_ended (start image words) told stands.segment }
+
+  pub cutting_ended : ((image : Image) (words : List ℕ) → IsRun c.going image words → IsRun g image words)
+      → ((image : Image) (words : List ℕ) → IsRun c.going image words → HasOutcome c.limits.limit (start image words) g.steps (Some o)) → IsCutting c → IsCutting (ended c g o)
+  cutting_ended runs told h = record {
+    image = h.image;
+    words = h.words;
+    ready = h.ready;
+    stands = stands_ended h.image h.words (runs h.image h.words h.stands.run) (told h.image h.words h.stands.run) h.stands;
+    limits = h.limits;
+    cycles = h.cycles;
+    pages = h.pages;
+    number = h.number;
+    within = omega (arith, none.cycles, h.within);
+    halted = λ e. some_not_none o (Some o) refl e;
+  }
+
+-- ---- the segment is whole
+-- where the run's outcome is known
+pub whole_ended : (r : State) (c : Cutting) (o : Outcome) → c.outcome ≡ Some o → (segment : IsUnderWay r c ⊎ IsOver r c) → IsWhole r c segment
+whole_ended r c o told (inl u) =
+    let all : IsOutcome r c.limits.limit o × (u.b + c.steps ≡ done_in c.limits.limit r) = subst (λ (t : Option Outcome). HasOutcome c.limits.limit r (u.b + c.steps) t) told u.outcome in
+    let rest : c.steps ≡ done_in c.limits.limit r - u.b = omega (arith, all.1) in
+    record {
+      longest = longest_is c.limits u.s c.steps (done_in c.limits.limit r - u.b) u.fits (omega (arith, rest)) (inl rest);
+      ended = λ _. ap is_some told;
+    }
+whole_ended r c o told (inr over) = tt
+
+-- or where the next step doesn't fit
+begins_here : (s t : State) (n : ℕ) → n ≡ 0 → after s n ≡ Some t → s ≡ t
+unfolding after
+begins_here s t n none at = same_some s t (ap (after s) (sym none) ∙ at)
+
+true_false : {A : Type 0} → true ≡ false → A
+true_false e = absurd (cc)
+
+pub whole_full : (c : Cutting) → IsCutting c → c.outcome ≡ None → has_room (foot_of (state_of c.going)) (step_cost (state_of c.going)) c.meter ≡ false
+    → (image : Image) (words : List ℕ) → (run : IsRun c.going image words) → (segment : IsUnderWay (start image words) c ⊎ IsOver (start image words) c) → IsWhole (start image words) c segment
+whole_full c h untold room image words run (inl u) =
+    let at : after u.s c.steps ≡ Some (state_of c.going) =
+    sym (after-add (start image words) u.b c.steps u.s u.reached) ∙ ap (after (start image words)) (sym u.steps) ∙ went_all c.going image words run (h.halted untold) in
+    let over : fits c.limits u.s (suc c.steps) ≡ false = room_fits c.limits u.s c.steps c.meter (state_of c.going) at h.cycles h.pages u.cost u.touched ∙ room in
+    let ready : IsReady (state_of c.going) = run_ready (start h.image h.words) (gone c.going) (state_of c.going) h.ready h.stands.run.reached in
+    let one : fits c.limits (state_of c.going) 1 ≡ true = one_fits c.limits (state_of c.going) h.limits ready.aligned in
+    record {
+      longest = longest_is c.limits u.s c.steps (done_in c.limits.limit (start image words) - u.b) u.fits (omega (arith, u.within)) (inr over);
+      ended = λ none.
+          true_false (sym one ∙ ap (λ (s : State). fits c.limits s 1) (sym (begins_here u.s (state_of c.going) c.steps none at)) ∙ ap (λ (n : ℕ). fits c.limits u.s (suc n)) (sym none) ∙ over);
+    }
+whole_full c h untold room image words run (inr over) = some_not_none over.outcome c.outcome over.told untold
+
+pub room_at : (c d : Cutting) → c ≡ d → (foot : List ℕ) (cost : ℕ) (v : Bool) → foot ≡ foot_of (state_of c.going) → cost ≡ step_cost (state_of c.going) → has_room foot cost c.meter ≡ v
+    → has_room (foot_of (state_of d.going)) (step_cost (state_of d.going)) d.meter ≡ v
+room_at c d same foot cost v foot_is cost_is room =
+    subst (λ (x : Cutting). has_room (foot_of (state_of x.going)) (step_cost (state_of x.going)) x.meter ≡ v) same (ap₂ (λ (f : List ℕ) (n : ℕ). has_room f n c.meter) (sym foot_is) (sym cost_is) ∙ room)
+
+-- a segment has at most as many steps as it may cost
+pub few_steps : (c : Cutting) → IsCutting c → c.outcome ≡ None → c.steps ≤ 16777216
+few_steps c h untold = go h.stands.segment
+  where
+    go : IsUnderWay (start h.image h.words) c ⊎ IsOver (start h.image h.words) c → c.steps ≤ 16777216
+    go (inl u) =
+        let at : after u.s c.steps ≡ Some (state_of c.going) =
+        sym (after-add (start h.image h.words) u.b c.steps u.s u.reached) ∙ ap (after (start h.image h.words)) (sym u.steps) ∙ went_all c.going h.image h.words h.stands.run (h.halted untold) in
+        omega (arith, spent_least u.s c.steps (state_of c.going) at, (fits_tells c.limits u.s c.steps u.fits).0, h.limits.most_cycles)
+    go (inr over) = some_not_none over.outcome c.outcome over.told untold
+
+-- ---- an executor before a step that fits
+-- its beginning is held, and this is what the step touches and costs
+pub record IsBefore (c : Cutting) (foot : List ℕ) (cost : ℕ) : Type 0 where
+  pub untold : c.outcome ≡ None
+  pub on : c.going.halted ≡ None
+  pub held : IsTrue (is_some c.beginning)
+  pub cutting : IsCutting c
+  pub foot_is : foot ≡ foot_of (state_of c.going)
+  pub cost_is : cost ≡ step_cost (state_of c.going)
+  pub room : has_room foot cost c.meter ≡ true
+
+abbrev pub with_meter : Cutting → Metered → Cutting
+with_meter c m = record c { meter = m }
+
+-- it is that of the call's begin, but for the beginning, and for the room of the meter
+module _ (i old j mid : Cutting) (m : Metered) (is_old : i ≡ old) (is_mid : j ≡ mid) (same : SameButBeginning old mid) (metered : m ≡ j.meter) where
+  going_is : j.going ≡ i.going
+  going_is = ap (λ (x : Cutting). x.going) is_mid ∙ same.going ∙ ap (λ (x : Cutting). x.going) (sym is_old)
+
+  meter_is : m ≡ i.meter
+  meter_is = metered ∙ ap (λ (x : Cutting). x.meter) is_mid ∙ same.meter ∙ ap (λ (x : Cutting). x.meter) (sym is_old)
+
+  outcome_is : j.outcome ≡ i.outcome
+  outcome_is = ap (λ (x : Cutting). x.outcome) is_mid ∙ same.outcome ∙ ap (λ (x : Cutting). x.outcome) (sym is_old)
+
+  pub before : (foot : List ℕ) (cost : ℕ) → IsTrue (is_some mid.beginning) → IsCutting j → i.outcome ≡ None → foot ≡ foot_of (state_of i.going) → cost ≡ step_cost (state_of i.going) → has_room foot cost i.meter ≡ true
+      → IsBefore (with_meter j m) foot cost
+  before foot cost held h none foot_is cost_is room =
+      let untold : j.outcome ≡ None = outcome_is ∙ none in
+      record {
+        untold = untold;
+        on = h.halted untold;
+        held = ap (λ (x : Cutting). is_some x.beginning) is_mid ∙ held;
+        cutting = subst (λ (x : Metered). IsCutting (with_meter j x)) (sym metered) h;
+        foot_is = foot_is ∙ ap (λ (x : Going). foot_of (state_of x)) (sym going_is);
+        cost_is = cost_is ∙ ap (λ (x : Going). step_cost (state_of x)) (sym going_is);
+        room = ap (has_room foot cost) meter_is ∙ room;
+      }
+
+  pub stands_before : (image : Image) (words : List ℕ) → Stands mid image words → Stands (with_meter j m) image words
+  stands_before image words stands =
+      subst (λ (x : Metered). Stands (with_meter j x) image words) (sym metered) (subst (λ (x : Cutting). Stands x image words) (sym is_mid) stands)
+
+-- the state of a run is told by no outcome
+pub none_told : (limit : ℕ) (r : State) (n : ℕ) (o : Option Outcome) → o ≡ None → HasOutcome limit r n o
+none_told limit r n o none = subst (λ (t : Option Outcome). HasOutcome limit r n t) (sym none) tt
+
+pub some_of : {A : Type 0} (o : Option A) → is_some o ≡ true → (x : A) × (o ≡ Some x)
+some_of (Some x) h = (x, refl)
+some_of None h = absurd (cc)

@@ -1,0 +1,24 @@
+use Rattle.std.proofs.Common.{refl, ap, ◌∙◌, arith}
+use Rattle.page_core.specs.Images.{Image}
+use Rattle.elf_image.specs.Loaded.{image_of}
+use Rattle.host_calls.specs.Meters.{Metered}
+use Rattle.flat_machine.specs.Going.{Going}
+use Rattle.executor.proofs.UnderWay.{zero_registers, stands_new, cutting_new}
+use Rattle.executor.proofs.executor.Executor.new.Goals as goal
+
+pub invariant_of-result : goal.invariant_of-result
+invariant_of-result g c =
+    let steps = c.in_ok-lift.ensures.same.steps ∙ c.new-flat.ensures.start in
+    let cycles = c.in_ok-lift.ensures.same.cycles in
+    let image : Image = image_of c.args.image in
+    let run = c.lift.ensures.stands image c.args.words.items c.new-flat.ensures.stands in
+    cutting_new _ image c.args.words.items (record { aligned = c.args.image.aligned; registers = zero_registers; is_word = omega (arith, c.args.image.below) })
+    (stands_new _ image c.args.words.items run steps refl refl refl (ap (λ (m : Metered). m.cost) c.new.ensures) (ap (λ (m : Metered). m.touched) c.new.ensures) refl)
+    steps (omega (arith, cycles, steps, c.new-flat.ensures.start, ap (λ (x : Going). x.cycles) c.flat.view_is, ap (λ (x : Going). x.steps) c.flat.view_is, c.flat.invariant.going.most)) refl c.cycles.ensures.ranges
+    (ap (λ (m : Metered). m.cycles) c.new.ensures ∙ c.cycles.ensures.value) (ap (λ (m : Metered). m.pages) c.new.ensures ∙ c.pages.ensures.value)
+
+pub returns-clause-stands : goal.returns-clause-stands
+returns-clause-stands g c =
+    let steps = c.in_ok-lift.ensures.same.steps ∙ c.new-flat.ensures.start in
+    let image : Image = image_of c.args.image in
+    stands_new _ image c.args.words.items (c.lift.ensures.stands image c.args.words.items c.new-flat.ensures.stands) steps refl refl refl (ap (λ (m : Metered). m.cost) c.new.ensures) (ap (λ (m : Metered). m.touched) c.new.ensures) refl

@@ -1,0 +1,259 @@
+ghost use Rattle.std.specs.Prelude.{◌≡◌, ◌^◌, ◌<◌, ◌≤◌, ℕ, List, All, IsTrue, IsFalse, is_some, Some, None, IfOk, OnOk, OnErr};
+ghost use Rattle.std.specs.Arc.{arc_value};
+ghost use Rattle.page_core.specs.Images.{Image as PlainImage};
+ghost use Rattle.elf_image.specs.Loaded.{image_of};
+ghost use Rattle.rv_step.specs.Runs.{start};
+ghost use Rattle.host_calls.specs.Meters.{with_step, has_room};
+ghost use Rattle.receipt_types.specs.Bundles.{item};
+ghost use Rattle.executor.specs.Proving.{cut_seals};
+ghost use Rattle.executor.specs.Cutting.{Stands, IsWhole, SameButBeginning};
+ghost use Rattle.executor.specs.Giving.{Gives};
+
+use crate::cut::Cut;
+use crate::limits::Limits;
+use byte_cursor::WordList;
+use digest_core::Digester;
+use elf_image::Image;
+use flat_machine::Flat;
+use host_calls::Meter;
+use page_tree::PageTree;
+use receipt_types::Seal;
+use rv_step::{Looked, Outcome};
+use std::alloc::{AllocError, Global};
+use std::marker::Model;
+use std::sync::Arc;
+
+// The most cuts of a run.
+const MOST_CUTS: u32 = 65_535;
+
+/// What an executor gives next.
+#[derive(Drop)]
+pub enum Next<D: Digester> {
+    /// The next segment.
+    Cut(Arc<Cut<D>, Global>),
+    /// No segment is left, and the run has this outcome.
+    Ended(Outcome),
+    /// 65,535 cuts were given, and there are more segments.
+    TooManySeals,
+}
+
+// Where a segment begins: its pc, how many words were read before, and its memory with the registers.
+#[derive(Drop)]
+struct Beginning<D: Digester> {
+    pc: u32,
+    read: usize,
+    tree: PageTree<D>,
+}
+
+impl<D: Digester> Model for Beginning<D> {
+    ghost use Rattle.executor.specs.Cutting as plain;
+
+    ghost Value = { plain.Beginning };
+
+    ghost view = { λ b. record { pc = b.pc; read = b.read; tree = b.tree } };
+}
+
+/// The run of an image and input words under limits, and how far it is cut. Contracts see the run, the limits, how many
+/// cuts were given, and the segment that is under way; `Stands` says that these are the cuts of the run of an image and
+/// words.
+///
+/// A call that is refused for want of memory leaves it after some further steps of the same segment, and may be repeated.
+#[derive(Drop)]
+pub struct Executor<D: Digester> {
+    flat: Flat,
+    limits: Limits,
+    number: u32,
+    beginning: Option<Beginning<D>>,
+    steps: u32,
+    meter: Meter,
+    outcome: Option<Outcome>,
+    alloc: Global,
+}
+
+impl<D: Digester> Model for Executor<D> {
+    ghost use Rattle.executor.specs.Cutting as plain;
+
+    ghost Value = { plain.Cutting };
+
+    ghost view = { λ e.
+        record {
+          going = e.flat;
+          limits = e.limits;
+          number = e.number;
+          beginning = e.beginning;
+          steps = e.steps;
+          meter = e.meter.segment;
+          outcome = e.outcome;
+        } };
+
+    ghost invariant = { λ e.
+        plain.IsCutting
+        (record {
+          going = e.flat;
+          limits = e.limits;
+          number = e.number;
+          beginning = e.beginning;
+          steps = e.steps;
+          meter = e.meter.segment;
+          outcome = e.outcome;
+        }) };
+}
+
+// A list of these words.
+fn copied(alloc: Global, words: &[u32]) -> Result<WordList, AllocError>
+    ensures items { IfOk result (λ list. list.items ≡ words.now) }
+    ensures are_words { IfOk result (λ list. All (λ word. word < 2 ^ 32) list.items) }
+{
+    let mut list = WordList::new(alloc);
+    for word in words {
+        list.push(*word)?;
+    }
+    Ok(list)
+}
+
+// Adds a step to a meter that has room for it.
+fn add_step(meter: &mut Meter, looked: &Looked)
+    requires room { IsTrue (has_room looked.now.foot looked.now.cost meter.old.segment) }
+    requires spare { 6 ≤ meter.old.spare }
+    ensures { meter.new.segment ≡ with_step looked.now.foot looked.now.cost meter.old.segment }
+{
+    if meter.add(&looked.foot, looked.cost).is_err() {
+        unreachable!();
+    }
+}
+
+impl<D: Digester> Executor<D> {
+    /// The run of an image and input words under limits, of which nothing is cut yet. An AllocError is want of memory.
+    pub fn new(
+        alloc: Global,
+        image: Image,
+        words: WordList,
+        limits: Limits,
+    ) -> Result<Executor<D>, AllocError>
+        ensures start { IfOk result (λ executor. executor.number ≡ 0) }
+        ensures limits { IfOk result (λ executor. executor.limits ≡ limits) }
+        ensures stands { IfOk result (λ executor. Stands executor (image_of image) words.items) }
+    {
+        let mut flat = Flat::new(alloc, image, words);
+        flat.lift()?;
+        Ok(Executor {
+            flat,
+            limits,
+            number: 0,
+            beginning: None,
+            steps: 0,
+            meter: Meter::new(alloc, limits.cycles(), limits.pages()),
+            outcome: None,
+            alloc,
+        })
+    }
+
+    /// The next segment of the run; or the run's outcome, where none is left; or that there are more than 65,535. Each call
+    /// after an outcome, and each after TooManySeals, answers the same.
+    pub fn next(&mut self) -> Result<Next<D>, AllocError>
+        ensures stands { (image : PlainImage) (words : List ℕ) → Stands self.old image words → Stands self.new image words }
+        ensures gives { IfOk result (λ next. (image : PlainImage) (words : List ℕ) → Stands self.old image words → Gives D.digest_of self.old.limits (start image words) self.old.number self.new.number next) }
+        ensures limits { self.new.limits ≡ self.old.limits }
+        ensures refused { OnErr result (self.new.number ≡ self.old.number) }
+    {
+        while self.advance()? {}
+        if self.steps == 0 {
+            match self.outcome {
+                Some(outcome) => return Ok(Next::Ended(outcome)),
+                None => unreachable!(),
+            }
+        }
+        if self.number == MOST_CUTS {
+            return Ok(Next::TooManySeals);
+        }
+        let cut = self.cut()?;
+        self.number += 1;
+        self.beginning = None;
+        self.steps = 0;
+        self.meter.clear();
+        Ok(Next::Cut(cut))
+    }
+
+    // Does the next step, where it belongs to the segment that is under way and the run goes on after it; else the segment
+    // is whole.
+    fn advance(&mut self) -> Result<bool, AllocError>
+        ensures stands { (image : PlainImage) (words : List ℕ) → Stands self.old image words → Stands self.new image words }
+        ensures same { (self.new.limits ≡ self.old.limits) × (self.new.number ≡ self.old.number) }
+        ensures went { IfOk result (λ went. IsTrue went → (self.old.going.cycles < self.new.going.cycles) × (self.new.going.cycles ≤ self.new.limits.limit)) }
+        ensures whole { IfOk result (λ went. IsFalse went → (image : PlainImage) (words : List ℕ) → (stands : Stands self.new image words) → IsWhole (start image words) self.new stands.segment) }
+    {
+        if self.outcome.is_some() {
+            return Ok(false);
+        }
+        let looked = self.flat.look();
+        if !self.meter.fits(&looked.foot, looked.cost) {
+            return Ok(false);
+        }
+        self.begin()?;
+        self.meter.reserve()?;
+        match self.flat.step(self.limits.limit())? {
+            None => {
+                add_step(&mut self.meter, &looked);
+                self.steps += 1;
+                Ok(true)
+            }
+            Some(Outcome::Halted(code)) => {
+                add_step(&mut self.meter, &looked);
+                self.steps += 1;
+                self.outcome = Some(Outcome::Halted(code));
+                Ok(false)
+            }
+            Some(Outcome::Faulted { fault, pc, step }) => {
+                self.outcome = Some(Outcome::Faulted { fault, pc, step });
+                Ok(false)
+            }
+            Some(Outcome::OverLimit { step }) => {
+                self.outcome = Some(Outcome::OverLimit { step });
+                Ok(false)
+            }
+        }
+    }
+
+    // Holds the beginning of the segment, if it isn't held yet: then no step of it was done.
+    fn begin(&mut self) -> Result<(), AllocError>
+        requires { self.old.outcome ≡ None }
+        ensures stands { (image : PlainImage) (words : List ℕ) → Stands self.old image words → Stands self.new image words }
+        ensures same { SameButBeginning self.old self.new }
+        ensures begun { OnOk result (IsTrue (is_some self.new.beginning)) }
+    {
+        if self.beginning.is_some() {
+            return Ok(());
+        }
+        let full = self.flat.full()?;
+        self.beginning = Some(Beginning {
+            pc: self.flat.pc(),
+            read: self.flat.read().len(),
+            tree: PageTree::from_map(self.alloc, &full)?,
+        });
+        Ok(())
+    }
+
+    // The cut of the segment that is under way, which is whole and has a step.
+    fn cut(&self) -> Result<Arc<Cut<D>, Global>, AllocError>
+        requires some { 1 ≤ self.now.steps }
+        requires whole { (image : PlainImage) (words : List ℕ) → (stands : Stands self.now image words) → IsWhole (start image words) self.now stands.segment }
+        ensures number { IfOk result (λ cut. (arc_value cut).number ≡ self.now.number) }
+        ensures seal { IfOk result (λ cut. (image : PlainImage) (words : List ℕ) → Stands self.now image words → item (cut_seals D.digest_of self.now.limits (start image words)) self.now.number ≡ Some (arc_value cut).seal) }
+    {
+        let Some(beginning) = &self.beginning else {
+            unreachable!();
+        };
+        let (_, taken) = self.flat.read().split_at(beginning.read);
+        let words = copied(self.alloc, taken)?;
+        let seal = Seal {
+            pc: beginning.pc,
+            steps: self.steps,
+            words,
+            tree: beginning.tree.open(self.meter.pages())?,
+        };
+        match Arc::new(self.alloc, Cut::of(self.alloc, self.number, seal)) {
+            Ok(cut) => Ok(cut),
+            Err(_) => Err(AllocError),
+        }
+    }
+}

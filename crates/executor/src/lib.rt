@@ -1,0 +1,14 @@
+//! The run of a guest cut into segments, each with the seal that a check replays.
+#![tactic(auto)]
+
+mod cut;
+mod executor;
+mod laws;
+mod limits;
+#[cfg(test)]
+mod tests;
+
+pub use cut::Cut;
+pub use executor::{Executor, Next};
+pub use laws::{cuts_keep_limits, segments_cover, stretches_replay};
+pub use limits::Limits;

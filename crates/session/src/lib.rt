@@ -1,0 +1,12 @@
+//! A whole session: the run of a guest, cut into segments whose seals are replayed and joined.
+#![tactic(auto)]
+
+mod alone;
+mod laws;
+mod stop;
+#[cfg(test)]
+mod tests;
+
+pub use alone::prove_alone;
+pub use laws::segments_chain;
+pub use stop::SessionStop;

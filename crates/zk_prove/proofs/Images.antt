@@ -1,0 +1,42 @@
+-- The memory with the registers, where the run of an image begins whose memory is zero from the register page on.
+use Rattle.std.proofs.Common.{◌≡◌, ⊎_elim, ℕ, zero, suc, ◌+◌, ◌-◌, ◌≤◌, Bool, true, false, cond, ◌&&◌, leb, ltb, List, length, get_or, replicate, refl, sym, ap, ◌∙◌}
+use Rattle.std.proofs.lemmas.Bool.Decides.{leb_tells}
+use Rattle.page_core.specs.Memory.{top, put, bytes_of_words}
+use Rattle.page_core.specs.Memories.{page_of}
+use Rattle.page_core.specs.Images.{Image}
+use Rattle.page_core.proofs.Bytes.{page_same}
+use Rattle.part_tree.specs.Tree.{root}
+use Rattle.part_tree.proofs.Change.{same_pages}
+use Rattle.rv_step.specs.Machine.{full, full_of}
+use Rattle.rv_step.specs.Runs.{start}
+use Rattle.rv_step.proofs.Full.{full-below}
+
+no_bytes : (n k : ℕ) → get_or (bytes_of_words (replicate n 0)) k 0 ≡ 0
+unfolding bytes_of_words
+no_bytes zero k = refl
+no_bytes (suc n) zero = refl
+no_bytes (suc n) (suc zero) = refl
+no_bytes (suc n) (suc (suc zero)) = refl
+no_bytes (suc n) (suc (suc (suc zero))) = refl
+no_bytes (suc n) (suc (suc (suc (suc k)))) = no_bytes n k
+
+either : (b : Bool) (x y : ℕ) → x ≡ y → cond b x y ≡ y
+either true x y e = e
+either false x y e = refl
+
+zeros_in : (m : ℕ → ℕ) (a : ℕ) → m a ≡ 0 → full_of m (replicate 32 0) a ≡ m a
+unfolding full_of put
+zeros_in m a e =
+    either (leb (top + 4) a && ltb a (top + 4 + length (bytes_of_words (replicate 31 0)))) (get_or (bytes_of_words (replicate 31 0)) (a - (top + 4)) 0) (m a)
+    (no_bytes 31 (a - (top + 4)) ∙ sym e)
+
+module _ (image : Image) (words : List ℕ) (rest : (a : ℕ) → top ≤ a → image.memory a ≡ 0) where
+  start_byte : (a : ℕ) → full (start image words) a ≡ image.memory a
+  start_byte a = ⊎_elim (λ t. zeros_in image.memory a (rest a t.1)) (λ t. full-below image.memory (replicate 32 0) a t.1) (leb_tells top a)
+
+  start_pages : (H : List ℕ → List ℕ) → root H (page_of (full (start image words))) ≡ root H (page_of image.memory)
+  start_pages H =
+      ap H (same_pages H (page_of image.memory) (page_of (full (start image words))) 18 0 (λ page b. page_same (full (start image words)) image.memory page (λ a at. start_byte a))).0
+
+pub start_root : (H : List ℕ → List ℕ) (image : Image) (words : List ℕ) → ((a : ℕ) → top ≤ a → image.memory a ≡ 0) → root H (page_of (full (start image words))) ≡ root H (page_of image.memory)
+start_root H image words rest = start_pages image words rest H
