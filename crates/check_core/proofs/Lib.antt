@@ -15,3 +15,5 @@ pub mod Called
 pub mod Chaining
 pub mod Stopping
 pub mod Steps
+pub mod Claims
+pub mod Linked

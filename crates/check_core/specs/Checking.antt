@@ -1,38 +1,34 @@
 -- What a check answers of bytes and of bundles. H is the digest function.
-use Rattle.std.specs.Prelude.{◌≡◌, ⊤, ℕ, ◌<◌, List, length, Option, Some, None}
+use Rattle.std.specs.Prelude.{◌≡◌, ⊤, ℕ, List, [], Option, Some, None}
+use Rattle.std.specs.List.{AllZip}
 use Rattle.claim_types.specs.Claims.{SpanClaim}
-use Rattle.receipt_types.specs.Bundles.{Bundle}
+use Rattle.receipt_types.specs.Bundles.{Entry, Bundle, item}
 use Rattle.receipt_types.specs.Spelling.{Spells}
 use Rattle.receipt_codec.specs.Reading.{BeginsVersion}
 use Rattle.receipt_codec.specs.declared.stop.BundleStop.{BundleStop}
 use Rattle.receipt_codec.specs.declared.stop.BundleStop.TheVariants as Read
 use Rattle.seal_replay.specs.declared.stop.ReplayStop.{ReplayStop}
 use Rattle.seal_replay.specs.declared.stop.ReplayStop.TheVariants as Replay
-use Rattle.lift_join.specs.Joins.{joined}
+use Rattle.lift_join.specs.Joins.{joined, chain_of}
 use Rattle.check_core.specs.declared.stop.CheckStop.{CheckStop}
-use Rattle.check_core.specs.declared.stop.CheckStop.TheVariants.{Malformed, Version, NotBuilt, Broken, Memory}
+use Rattle.check_core.specs.declared.stop.CheckStop.TheVariants.{Malformed, Version, Broken, Memory}
 use Rattle.check_core.specs.Judgement.{Accepts, first_stop}
-use Rattle.check_core.specs.Reports.{Report, report_of}
+use Rattle.check_core.specs.Reports.{EntryReport, Report, report_of}
+use Rattle.check_core.specs.Entries.{digest_in}
 
 -- ---- the answers to a bundle
--- it has one entry, and this is the first that stops it
-abbrev pub IsFirstStop : (List ℕ → List ℕ) → Bundle → List ℕ → CheckStop → Type 0
-IsFirstStop H B id stop = (length B ≡ 1) × (first_stop H B id ≡ Some stop)
-
--- a refusal of a bundle: it has several entries, or one and this first stop, or there was no memory
+-- a refusal of a bundle: this is its first stop, or there was no memory
 abbrev pub Stops : (List ℕ → List ℕ) → Bundle → List ℕ → CheckStop → Type 0
 Stops H B id Malformed = ⊥
 Stops H B id (Version version) = ⊥
-Stops H B id NotBuilt = 1 < length B
 Stops H B id Memory = ⊤
-Stops H B id stop = IsFirstStop H B id stop
+Stops H B id stop = first_stop H B id ≡ Some stop
 
 -- ---- the answers to bytes
--- they spell a bundle of one entry that is accepted under the id, and this is its report
+-- they spell a bundle that is accepted under the id, and this is its report
 pub record IsReported (H : List ℕ → List ℕ) (id bytes : List ℕ) (report : Report) : Type 0 where
   pub bundle : Bundle
   pub spelled : Spells bundle bytes
-  pub one : length bundle ≡ 1
   pub accepted : Accepts H bundle id
   pub is_report : report_of H bundle ≡ Some report
 
@@ -64,6 +60,19 @@ stop_of_bytes Read.Memory = Memory
 abbrev pub broken_by : ℕ → ℕ → ReplayStop → CheckStop
 broken_by e k Replay.Memory = Memory
 broken_by e k stop = Broken e k stop
+
+-- these are the claims of the entries' chains, in order
+abbrev pub AreClaims : (List ℕ → List ℕ) → List Entry → List SpanClaim → Type 0
+AreClaims H entries claims = AllZip (λ entry claim. chain_of H entry.seals ≡ Some claim) entries claims
+
+-- the claim digest of a report, where there is one
+abbrev pub reported_digest : Option EntryReport → List ℕ
+reported_digest None = []
+reported_digest (Some report) = report.claim
+
+-- the reports tell the claim digests of a bundle's entries
+abbrev pub TellDigests : (List ℕ → List ℕ) → Bundle → List EntryReport → Type 0
+TellDigests H B reports = (e : ℕ) → digest_in H B e ≡ reported_digest (item reports e)
 
 -- a claim after the claim of what is before it, if there is any
 abbrev pub join_next : Option SpanClaim → SpanClaim → SpanClaim

@@ -6,3 +6,4 @@ pub mod Hashed
 pub mod Vouching
 pub mod Auditing
 pub mod Laws
+pub mod Checked

@@ -50,6 +50,10 @@ pub record Report : Type 0 where
   pub journal : List ℕ
   pub entries : List EntryReport
 
+-- it is stored as its fields
+abbrev pub report_code : Coded Report
+report_code = code_by (List ℕ × List EntryReport) (coded× (coded_list coded_ℕ) (coded_list entry_report_code)) (λ r. (r.journal, r.entries)) (λ p. record { journal = p.0; entries = p.1 }) (λ _. refl)
+
 -- the exit code; a chain that is accepted halts
 abbrev pub code_of : Exit → ℕ
 code_of Split = 0

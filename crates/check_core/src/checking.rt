@@ -8,8 +8,8 @@ use digest_core::{Digest, Digester};
 use receipt_codec::read_bundle;
 use std::alloc::Global;
 
-/// Checks a receipt's bytes under an image id: a receipt of version 1 with one entry. Ok comes exactly where they spell a
-/// bundle of one entry that is accepted under the id, and each stop but Memory exactly where it is the first.
+/// Checks a receipt's bytes, of version 1, under an image id. Ok comes exactly where they spell a bundle that is accepted
+/// under the id, and each stop but Memory exactly where it is the first.
 pub fn check<D: Digester>(alloc: Global, bytes: &[u8], id: &Digest) -> Result<Report, CheckStop>
     ensures report { IfOk result (λ report. IsReported D.digest_of id.now bytes.now report) }
     ensures stop { IfErr result (λ stop. Refuses D.digest_of id.now bytes.now stop) }

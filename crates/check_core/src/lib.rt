@@ -3,13 +3,17 @@
 //! strings collide.
 #![tactic(auto)]
 
+mod chains;
+mod checked;
 mod checking;
 mod judging;
 mod laws;
+mod linking;
 mod report;
 mod reporting;
 mod stop;
 
+pub use checked::Checked;
 pub use checking::check;
 pub use judging::{check_bundle, first_id};
 pub use laws::{

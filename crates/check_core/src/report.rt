@@ -57,5 +57,7 @@ impl Model for Report {
 
     ghost Value = { plain.Report };
 
+    ghost coded = { plain.report_code };
+
     ghost view = { λ r. record { journal = r.journal.items; entries = r.entries.items } };
 }

@@ -1,33 +1,33 @@
-//! What is reported of an accepted bundle, and of each of its entries.
-ghost use Rattle.std.specs.Prelude.{◌≡◌, ◌≤◌, ◌*◌, [], ◌∷◌, length, map, IfOk};
+//! What is reported of the entries of a bundle.
+ghost use Rattle.std.specs.Prelude.{◌≡◌, ◌≤◌, length, map, Some, IfOk};
 ghost use Rattle.std.specs.Arc.{arc_value};
-ghost use Rattle.receipt_types.specs.Limits.{AllSealLimits};
+ghost use Rattle.receipt_types.specs.Limits.{AllSealLimits, KeepsLimits};
 ghost use Rattle.receipt_types.specs.Seals as plain;
 ghost use Rattle.check_core.specs.Reports as spec;
+ghost use Rattle.check_core.specs.Checking.{AreClaims};
 
-use crate::report::{ClaimList, EntryClaim, Report};
+use crate::report::{ClaimList, EntryClaim};
 use claim_types::{Exit, SpanClaim, claim_digest, conditional_digest, state_digest};
 use digest_core::{Digester, hash};
-use receipt_types::{Entry, LinkList, Seal};
+use receipt_types::{Bundle, Entry, LinkList, Seal};
 use std::alloc::{AllocError, Global};
 use std::sync::Arc;
 
-// The report of a bundle of this one entry, whose seals have this claim.
-pub(crate) fn report_of<D: Digester>(
+// The reports of a bundle's entries, whose claims these are.
+pub(crate) fn entry_reports<D: Digester>(
     alloc: Global,
-    entry: &Entry,
-    claim: SpanClaim,
-) -> Result<Report, AllocError>
-    requires few { length entry.now.seals ≤ 65535 }
-    requires limits { AllSealLimits entry.now.seals }
-    ensures { IfOk result (λ report. report ≡ record { journal = claim.journal; entries = spec.entry_report D.digest_of entry.now claim ∷ [] }) }
+    bundle: &Bundle,
+    claims: &[SpanClaim],
+) -> Result<ClaimList, AllocError>
+    requires limits { KeepsLimits bundle.now }
+    requires claims { AreClaims D.digest_of bundle.now claims.now }
+    ensures { IfOk result (λ reports. spec.entry_reports D.digest_of bundle.now ≡ Some reports.items) }
 {
-    let mut entries = ClaimList::new(alloc);
-    entries.push(entry_report::<D>(alloc, entry, &claim)?)?;
-    Ok(Report {
-        journal: claim.journal,
-        entries,
-    })
+    let mut reports = ClaimList::new(alloc);
+    for (entry, claim) in bundle.entries.as_slice().iter().zip(claims) {
+        reports.push(entry_report::<D>(alloc, entry, claim)?)?;
+    }
+    Ok(reports)
 }
 
 /// The report of an entry that has at most 65,535 seals, each within the limits of a receipt, where this is the claim of

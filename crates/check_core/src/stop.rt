@@ -16,8 +16,6 @@ pub enum CheckStop {
     Malformed,
     /// The bytes begin with this other version.
     Version(u16),
-    /// The bundle has more than one entry: such bundles aren't judged.
-    NotBuilt,
     /// This digest of the first entry's first state isn't the id.
     WrongImage(Digest),
     /// The replay of this seal stops.

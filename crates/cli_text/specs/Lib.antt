@@ -4,3 +4,4 @@ pub mod BadElf
 pub mod Faults
 pub mod Reports
 pub mod Ends
+pub mod Refusals

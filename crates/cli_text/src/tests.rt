@@ -3,10 +3,11 @@
 use crate::faults::fault_text;
 use crate::journals::journal_text;
 use crate::printed::{Printed, or_memory};
+use crate::refusals::{bad_receipt_text, check_stop_text};
 use crate::reports::{proved_text, valid_text};
 use crate::status::Status;
 use byte_cursor::{ByteList, ItemList};
-use check_core::{ClaimList, EntryClaim, Report};
+use check_core::{CheckStop, ClaimList, EntryClaim, Report};
 use digest_core::Digest;
 use elf_image::ElfStop;
 use rv_isa::Fault;
@@ -110,5 +111,19 @@ fn a_report_has_its_lines(rt: HostRuntime) -> Result<(), Fail> {
         rest.and_then(|rest| rest.strip_suffix("bytes 3235\n")),
         Some(lines)
     );
+    Ok(())
+}
+
+#[test]
+fn a_refusal_tells_its_stop(rt: HostRuntime) -> Result<(), Fail> {
+    let stop = CheckStop::LinkCount {
+        entry: 1,
+        calls: 2,
+        links: 3,
+    };
+    let own = check_stop_text(rt.alloc(), &stop)?;
+    assert_eq!(rt; own.as_str(), "refused link-count 1 2 3\n");
+    let other = bad_receipt_text(rt.alloc(), 4, &CheckStop::Malformed)?;
+    assert_eq!(rt; other.as_str(), "bad-receipt 4 malformed\n");
     Ok(())
 }

@@ -56,7 +56,7 @@ other_version bytes B version begins spelled =
     begins.other (omega (arith, low, high, begins.fits))
 
 module _ (H : List ℕ → List ℕ) (one : OneSpelled bundle_bytes KeepsLimits) (law : AcceptedUnstopped H) (form : LimitsGiveForm) where
-  module _ (id bytes : List ℕ) (B : Bundle) (spelled : Spells B bytes) (single : length B ≡ 1) (accepted : Accepts H B id) where
+  module _ (id bytes : List ℕ) (B : Bundle) (spelled : Spells B bytes) (accepted : Accepts H B id) where
     -- nothing stops it
     not_stopped : (C : Bundle) (stop : CheckStop) → Spells C bytes → first_stop H C id ≡ Some stop → ⊥
     not_stopped C stop spells is_first =
@@ -66,16 +66,13 @@ module _ (H : List ℕ → List ℕ) (one : OneSpelled bundle_bytes KeepsLimits)
     not_refused : (stop : CheckStop) → Refuses H id bytes stop → stop ≢ NoRoom → ⊥
     not_refused Stop.Malformed refuses said = refuses.none B spelled
     not_refused (Stop.Version version) refuses said = other_version bytes B version refuses spelled
-    not_refused Stop.NotBuilt refuses said =
-        let same : length refuses.bundle ≡ 1 = ap length (same_bundle one bytes refuses.bundle B refuses.spelled spelled) ∙ single in
-        omega (arith, same, refuses.stops)
-    not_refused (Stop.WrongImage found) refuses said = not_stopped refuses.bundle (Stop.WrongImage found) refuses.spelled refuses.stops.1
-    not_refused (Stop.Broken e k stop) refuses said = not_stopped refuses.bundle (Stop.Broken e k stop) refuses.spelled refuses.stops.1
-    not_refused (Stop.Unjoined e k after before) refuses said = not_stopped refuses.bundle (Stop.Unjoined e k after before) refuses.spelled refuses.stops.1
-    not_refused (Stop.EndInside e k) refuses said = not_stopped refuses.bundle (Stop.EndInside e k) refuses.spelled refuses.stops.1
-    not_refused (Stop.NoEnd e) refuses said = not_stopped refuses.bundle (Stop.NoEnd e) refuses.spelled refuses.stops.1
-    not_refused (Stop.LinkCount e calls links) refuses said = not_stopped refuses.bundle (Stop.LinkCount e calls links) refuses.spelled refuses.stops.1
-    not_refused (Stop.BadLink e call wanted found) refuses said = not_stopped refuses.bundle (Stop.BadLink e call wanted found) refuses.spelled refuses.stops.1
+    not_refused (Stop.WrongImage found) refuses said = not_stopped refuses.bundle (Stop.WrongImage found) refuses.spelled refuses.stops
+    not_refused (Stop.Broken e k stop) refuses said = not_stopped refuses.bundle (Stop.Broken e k stop) refuses.spelled refuses.stops
+    not_refused (Stop.Unjoined e k after before) refuses said = not_stopped refuses.bundle (Stop.Unjoined e k after before) refuses.spelled refuses.stops
+    not_refused (Stop.EndInside e k) refuses said = not_stopped refuses.bundle (Stop.EndInside e k) refuses.spelled refuses.stops
+    not_refused (Stop.NoEnd e) refuses said = not_stopped refuses.bundle (Stop.NoEnd e) refuses.spelled refuses.stops
+    not_refused (Stop.LinkCount e calls links) refuses said = not_stopped refuses.bundle (Stop.LinkCount e calls links) refuses.spelled refuses.stops
+    not_refused (Stop.BadLink e call wanted found) refuses said = not_stopped refuses.bundle (Stop.BadLink e call wanted found) refuses.spelled refuses.stops
     not_refused Stop.Memory refuses said = said refl
 
     judged_done : (lines : List ℕ) (status : Status) → Judged H id bytes status lines → status ≡ Done
@@ -85,7 +82,7 @@ module _ (H : List ℕ → List ℕ) (one : OneSpelled bundle_bytes KeepsLimits)
   -- the status of the answer
   pub answers_done : (words : List (List ℕ)) (told : Option Files) (status : Status) (lines : List ℕ) → Answers H words told status lines → NamesAccepted H words told → status ≡ Done
   answers_done words told status lines answers named =
-      judged_done named.id named.bytes named.bundle named.spelled named.one named.accepted lines status
+      judged_done named.id named.bytes named.bundle named.spelled named.accepted lines status
       (answers_of H words told status lines answers (check named.receipt named.id) named.is_job named.files named.is_told named.bytes named.held named.within)
 
   pub accepted_ends : (words : List (List ℕ)) (told : Option Files) (status : Status) (lines : List ℕ) → Answers H words told status lines → NamesAccepted H words told

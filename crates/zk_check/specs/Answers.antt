@@ -23,12 +23,12 @@ use Rattle.cli_text.specs.declared.status.Status.TheVariants.{Done, Refused, Wor
 use Rattle.cli_text.specs.Lines.{no_file_lines, too_long_lines}
 use Rattle.cli_text.specs.BadElf.{bad_elf_lines}
 use Rattle.zk_check.specs.Words.{Job, check, identify, file_of, limit_of, job_of}
+use Rattle.cli_text.specs.Refusals.{stop_lines}
 use Rattle.cli_text.specs.Reports.{valid_lines}
 use Rattle.zk_check.specs.Lines.{usage_lines, id_lines}
-use Rattle.zk_check.specs.Refusals.{stop_lines}
 
 -- ---- a receipt
--- the bytes spell a bundle of one entry that is accepted under the id, and the lines are those of its report
+-- the bytes spell a bundle that is accepted under the id, and the lines are those of its report
 pub record IsValid (H : List ℕ → List ℕ) (id bytes lines : List ℕ) : Type 0 where
   pub report : Report
   pub reported : IsReported H id bytes report

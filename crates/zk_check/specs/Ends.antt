@@ -40,7 +40,7 @@ pub record IsIdentifiedPut (H : List ℕ → List ℕ) (bytes : List ℕ) (taken
   pub identified : IsIdentified H bytes lines
   pub put : taken' ≡ append_known taken lines
 
--- the words name a file whose bytes, as told, are a receipt of one entry that is accepted under the named id
+-- the words name a file whose bytes, as told, are a receipt that is accepted under the named id
 pub record NamesAccepted (H : List ℕ → List ℕ) (words : List (List ℕ)) (told : Option Files) : Type 0 where
   pub receipt : List ℕ
   pub id : List ℕ
@@ -52,7 +52,6 @@ pub record NamesAccepted (H : List ℕ → List ℕ) (words : List (List ℕ)) (
   pub within : length bytes ≤ limit_of (check receipt id)
   pub bundle : Bundle
   pub spelled : Spells bundle bytes
-  pub one : length bundle ≡ 1
   pub accepted : Accepts H bundle id
 
 -- the words name an ELF file whose bytes, as told, fail no test

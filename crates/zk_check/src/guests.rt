@@ -52,3 +52,49 @@ pub(crate) const SAYS_HELLO: [FirstWords<'static>; 3] = [
     (8, &[]),
     (262_143, &[]),
 ];
+
+// ADDI x17, x0, 0; ADDI x10, x0, 0; ECALL: HALT with 0.
+pub(crate) const HALTS_0: [FirstWords<'static>; 2] = [(4, &[0x893, 0x513, 0x73]), (262_143, &[])];
+
+// ASSUME, twice, of the image id of the guest that halts with 0, at 0x1040, and of the digest of no bytes, at 0x1060; HALT
+// with 0.
+pub(crate) const ASSUMES_TWICE: [FirstWords<'static>; 2] = [
+    (
+        4,
+        &[
+            0x0030_0893,
+            0x15B7,
+            0x0605_8593,
+            0x1537,
+            0x0405_0513,
+            0x73,
+            0x1537,
+            0x0405_0513,
+            0x73,
+            0x893,
+            0x513,
+            0x73,
+            0,
+            0,
+            0,
+            0,
+            0x7C10_1934,
+            0xE4D9_7F3D,
+            0xB36E_FE26,
+            0xD120_22E9,
+            0x2DCC_B9D7,
+            0xE7F3_4F58,
+            0x4485_53C9,
+            0x04BC_4F5B,
+            0x42C4_B0E3,
+            0x141C_FC98,
+            0xC8F4_FB9A,
+            0x24B9_6F99,
+            0xE441_AE27,
+            0x4C93_9B64,
+            0x1B99_95A4,
+            0x55B8_5278,
+        ],
+    ),
+    (262_143, &[]),
+];

@@ -1,9 +1,8 @@
 ghost use Rattle.std.specs.Prelude.{IfOk, string_bytes};
 ghost use Rattle.zk_check.specs.Answers.{Judged};
 
-use crate::refusals::stop_text;
 use check_core::{CheckStop, check};
-use cli_text::{Printed, Status, valid_text};
+use cli_text::{Printed, Status, check_stop_text, valid_text};
 use digest_core::{Digest, Digester};
 use std::alloc::{AllocError, Global};
 
@@ -18,6 +17,6 @@ pub(crate) fn judge<D: Digester>(
     match check::<D>(alloc, bytes, id) {
         Ok(report) => Printed::new(Status::Done, valid_text(alloc, &report)),
         Err(CheckStop::Memory) => Err(AllocError),
-        Err(stop) => Printed::new(Status::Refused, stop_text(alloc, &stop)),
+        Err(stop) => Printed::new(Status::Refused, check_stop_text(alloc, &stop)),
     }
 }

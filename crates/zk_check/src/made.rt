@@ -1,4 +1,4 @@
-//! Receipts of one entry, made for the tests, by hand: they don't rest on the writers that they test.
+//! Receipts made for the tests, by hand: they don't rest on the writers that they test.
 
 use byte_cursor::{ByteList, Out};
 use digest_core::{Digest, Digester, hash, node};
@@ -17,6 +17,13 @@ pub(crate) struct MadeSeal<'a> {
     pub pages: &'a [FirstWords<'a>],
 }
 
+/// An entry with these links and this one seal.
+#[derive(Drop)]
+pub(crate) struct MadeEntry<'a> {
+    pub links: &'a [u16],
+    pub seal: MadeSeal<'a>,
+}
+
 /// The receipt of one entry with these seals.
 pub(crate) fn receipt<D: Digester>(
     alloc: Global,
@@ -30,15 +37,47 @@ pub(crate) fn receipt<D: Digester>(
     put_count(&mut out, seals.len())?;
     let zeros = zero_nodes::<D>(alloc)?;
     for seal in seals {
-        out.put_u32(seal.pc)?;
-        out.put_u32(seal.steps)?;
-        put_count(&mut out, seal.words.len())?;
-        for word in seal.words {
-            out.put_u32(*word)?;
-        }
-        put_tree(&mut out, zeros.as_slice(), seal.pages)?;
+        put_seal(&mut out, zeros.as_slice(), seal)?;
     }
     Ok(out.finish())
+}
+
+/// The receipt of these entries.
+pub(crate) fn receipt_of<D: Digester>(
+    alloc: Global,
+    entries: &[MadeEntry],
+) -> Result<ByteList, AllocError> {
+    let Ok(count) = u16::try_from(entries.len()) else {
+        return Err(AllocError);
+    };
+    let mut out = Out::new(alloc);
+    out.put_all(b"SEAL")?;
+    out.put_u16(1)?;
+    out.put_u16(count)?;
+    let zeros = zero_nodes::<D>(alloc)?;
+    for entry in entries {
+        put_entry(&mut out, zeros.as_slice(), entry)?;
+    }
+    Ok(out.finish())
+}
+
+fn put_entry(out: &mut Out, zeros: &[Digest], entry: &MadeEntry) -> Result<(), AllocError> {
+    put_count(out, entry.links.len())?;
+    out.put_u32(1)?;
+    for link in entry.links {
+        out.put_u16(*link)?;
+    }
+    put_seal(out, zeros, &entry.seal)
+}
+
+fn put_seal(out: &mut Out, zeros: &[Digest], seal: &MadeSeal) -> Result<(), AllocError> {
+    out.put_u32(seal.pc)?;
+    out.put_u32(seal.steps)?;
+    put_count(out, seal.words.len())?;
+    for word in seal.words {
+        out.put_u32(*word)?;
+    }
+    put_tree(out, zeros, seal.pages)
 }
 
 fn put_count(out: &mut Out, count: usize) -> Result<(), AllocError> {

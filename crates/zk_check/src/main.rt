@@ -12,8 +12,9 @@ mod identifying;
 mod job;
 mod judging;
 #[cfg(test)]
+mod links_tests;
+#[cfg(test)]
 mod made;
-mod refusals;
 #[cfg(test)]
 mod seals_tests;
 #[cfg(test)]

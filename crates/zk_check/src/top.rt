@@ -19,16 +19,15 @@ use receipt_types::limits_give_form;
 use std::alloc::{AllocError, Global};
 
 /// Answers the words, and prints the answer in one put. The words are `check`, the receipt's name and
-/// the image id's 64 hexadecimal digits; or `id` and an ELF file's name. A receipt of one entry is judged;
-/// one of several is refused by form. Files are as before.
+/// the image id's 64 hexadecimal digits; or `id` and an ELF file's name. Files are as before.
 pub fn check_top<D: Digester, K: Desk, O: Sink>(
     alloc: Global,
     words: &[String],
     desk: &mut K,
     out: &mut O,
 ) -> Status
-    // With status 0 a checked receipt's bytes, where told, spell a bundle of one entry that is accepted under the id, and the sink has exactly
-    // the lines of its report appended.
+    // With status 0 a checked receipt's bytes, where told, spell a bundle that is accepted under the id, and the sink has
+    // exactly the lines of its report appended.
     ensures valid { result ≡ Status.Done → OnReceipt (job_of (map string_bytes words.now)) (K.contents desk.old) (λ id bytes.
         IsValidPut D.digest_of id bytes (O.taken out.old) (O.taken out.new)) }
     // Each entry then vouches for each image of its first state's id, or two strings among those hashed for bundle and image collide.

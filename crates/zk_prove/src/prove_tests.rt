@@ -3,7 +3,7 @@
 use crate::gate::NoGate;
 use crate::made::{HALTS_7, USAGE, byte_list, bytes_of, elf, listed, words_of};
 use crate::top::prove_top;
-use byte_cursor::{ByteList, Out};
+use byte_cursor::{ByteList, Cursor, Out};
 use check_core::{CheckStop, check};
 use cli_text::Status;
 use digest_core::{Digest, ShaDigester};
@@ -237,6 +237,12 @@ fn arranged(alloc: Global, bytes: &[u8], numbers: &[u8]) -> Result<ByteList, Fai
     Ok(out.finish())
 }
 
+// The register x5 as a seal begins: the seal's last 1,024 bytes are the register page.
+fn x5(bytes: &[u8], number: u8) -> Option<u32> {
+    let at = 16 + 3_219 * usize::from(number) + 2_195;
+    Cursor::new(bytes.get(at + 20..)?).take_u32()
+}
+
 // The stop of a receipt with these of a receipt's seals.
 fn stop_of(
     alloc: Global,
@@ -260,6 +266,9 @@ fn what_is_proved_is_accepted_and_in_no_other_order(rt: HostRuntime) -> Result<(
     let report = check::<ShaDigester>(alloc, bytes, &id).map_err(|_| "not accepted")?;
     let entry = report.entries.as_slice().first().ok_or("no entry")?;
     assert_eq!(rt; (entry.exit, entry.seals, entry.steps), (0, 3, 1202));
+    for (number, wanted) in [(0, 0), (1, 343), (2, 87)] {
+        assert_eq!(rt; x5(bytes, number), Some(wanted));
+    }
     let stop = stop_of(alloc, bytes, &[1, 0, 2], &id)?;
     assert!(rt; matches!(stop, Some(CheckStop::WrongImage(_))));
     let stop = stop_of(alloc, bytes, &[0, 2, 1], &id)?;
