@@ -1,0 +1,42 @@
+-- The entries of a bundle while they are put together, one other bundle after the other. H is the digest function.
+use Rattle.std.proofs.Common.{◌≡◌, ℕ, suc, ◌+◌, ◌<◌, ◌≤◌, List, ◌∷◌, ◌++◌, length, map, take, get_or, sym, ap, ◌∙◌, subst, arith}
+use Rattle.std.specs.List.{All}
+use Rattle.std.proofs.lemmas.List.{length-map, take_all}
+use Rattle.std.proofs.lemmas.List.Elements.{All-push}
+use Rattle.receipt_types.specs.Bundles.{Entry, Bundle}
+use Rattle.lift_join.specs.Joins.{chain_of}
+use Rattle.check_core.specs.Checked.{Checked, IsAccepted}
+use Rattle.check_core.specs.Entries.{digest_or_none}
+use Rattle.resolve.specs.Bundling.{raised, placed}
+use Rattle.resolve.specs.Resolving.{bundles_of}
+use Rattle.resolve.specs.Parts.{digests_of}
+use Rattle.resolve.proofs.Placed.{placed_of, bundles_more, placed_more, placed_within}
+
+-- there are as many claim digests as entries
+pub claims_long : (H : List ℕ → List ℕ) (claims : List (List ℕ)) (entries : List Entry) → claims ≡ digests_of H entries → length claims ≡ length entries
+claims_long H claims entries told = ap length told ∙ length-map entries (λ (entry : Entry). digest_or_none H (chain_of H entry.seals))
+
+module _ (others : List Checked) (i : ℕ) (other d : Checked) (low : i < length others) (is : other ≡ get_or others i d) where
+  -- the next bundle has its room
+  pub room_for_next : (first : Entry) (old : List Entry) (most : ℕ) → old ≡ first ∷ placed_of others i → length (placed 1 (bundles_of others)) + 1 ≤ most → length old + length other.bundle ≤ most
+  room_for_next first old most e few =
+      let within = placed_within others i other d low is in
+      let size = ap length e in
+      omega (arith, within, size, few)
+
+  -- and its entries come next
+  pub gathered_more : (first : Entry) (old : List Entry) → old ≡ first ∷ placed_of others i → old ++ map (raised (length old)) other.bundle ≡ first ∷ placed_of others (i + 1)
+  gathered_more first old e =
+      let n : ℕ = length (placed_of others i) in
+      let number : suc n ≡ 1 + n = omega arith in
+      ap (λ (es : List Entry). es ++ map (raised (length es)) other.bundle) e
+      ∙ ap (λ (k : ℕ). first ∷ (placed_of others i ++ map (raised k) other.bundle)) number
+      ∙ ap (λ (es : List Entry). first ∷ es) (sym (placed_more others i other d low is))
+
+  pub accepted_more : (H : List ℕ → List ℕ) → All (λ B. IsAccepted H B) (bundles_of (take i others)) → IsAccepted H other.bundle → All (λ B. IsAccepted H B) (bundles_of (take (i + 1) others))
+  accepted_more H all accepted =
+      subst (All (λ (B : Bundle). IsAccepted H B)) (sym (bundles_more others i other d low is))
+      (All-push (λ (B : Bundle). IsAccepted H B) (bundles_of (take i others)) other.bundle all accepted)
+
+pub all_accepted : (H : List ℕ → List ℕ) (others : List Checked) (i : ℕ) → length others ≤ i → All (λ B. IsAccepted H B) (bundles_of (take i others)) → All (λ B. IsAccepted H B) (bundles_of others)
+all_accepted H others i all accepted = subst (λ (xs : List Checked). All (λ B. IsAccepted H B) (bundles_of xs)) (take_all i others all) accepted

@@ -1,0 +1,4 @@
+pub mod Bundling
+pub mod Resolving
+pub mod Parts
+pub mod Laws
