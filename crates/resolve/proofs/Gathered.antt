@@ -5,7 +5,7 @@ use Rattle.std.proofs.lemmas.List.{length-map, take_all}
 use Rattle.std.proofs.lemmas.List.Elements.{All-push}
 use Rattle.receipt_types.specs.Bundles.{Entry, Bundle}
 use Rattle.lift_join.specs.Joins.{chain_of}
-use Rattle.check_core.specs.Checked.{Checked, IsAccepted}
+use Rattle.check_core.specs.Checked.{Checked}
 use Rattle.check_core.specs.Entries.{digest_or_none}
 use Rattle.resolve.specs.Bundling.{raised, placed}
 use Rattle.resolve.specs.Resolving.{bundles_of}
@@ -33,10 +33,9 @@ module _ (others : List Checked) (i : ℕ) (other d : Checked) (low : i < length
       ∙ ap (λ (k : ℕ). first ∷ (placed_of others i ++ map (raised k) other.bundle)) number
       ∙ ap (λ (es : List Entry). first ∷ es) (sym (placed_more others i other d low is))
 
-  pub accepted_more : (H : List ℕ → List ℕ) → All (λ B. IsAccepted H B) (bundles_of (take i others)) → IsAccepted H other.bundle → All (λ B. IsAccepted H B) (bundles_of (take (i + 1) others))
-  accepted_more H all accepted =
-      subst (All (λ (B : Bundle). IsAccepted H B)) (sym (bundles_more others i other d low is))
-      (All-push (λ (B : Bundle). IsAccepted H B) (bundles_of (take i others)) other.bundle all accepted)
+  -- what holds of each bundle so far holds with the next
+  pub all_more : (P : Bundle → Type 0) → All P (bundles_of (take i others)) → P other.bundle → All P (bundles_of (take (i + 1) others))
+  all_more P all next = subst (All P) (sym (bundles_more others i other d low is)) (All-push P (bundles_of (take i others)) other.bundle all next)
 
-pub all_accepted : (H : List ℕ → List ℕ) (others : List Checked) (i : ℕ) → length others ≤ i → All (λ B. IsAccepted H B) (bundles_of (take i others)) → All (λ B. IsAccepted H B) (bundles_of others)
-all_accepted H others i all accepted = subst (λ (xs : List Checked). All (λ B. IsAccepted H B) (bundles_of xs)) (take_all i others all) accepted
+pub all_of : (P : Bundle → Type 0) (others : List Checked) (i : ℕ) → length others ≤ i → All P (bundles_of (take i others)) → All P (bundles_of others)
+all_of P others i all holds = subst (λ (xs : List Checked). All P (bundles_of xs)) (take_all i others all) holds

@@ -28,7 +28,7 @@ unanswered H entries k [] = None
 unanswered H entries k (call ∷ calls) = or_later (first_with H (ok_digest H call) 1 entries) k (unanswered H entries (k + 1) calls)
 
 -- the first call that no entry answers; or, where each is answered, that there are more than 256 entries; or there was no memory
-abbrev pub Stops : (List ℕ → List ℕ) → Chained → List Bundle → ResolveStop → Type 0
-Stops H proved others (NoReceiptFor call) = unanswered H (placed 1 others) 0 proved.claim.calls ≡ Some call
-Stops H proved others (TooManyEntries count) = (unanswered H (placed 1 others) 0 proved.claim.calls ≡ None) × (count ≡ length (placed 1 others) + 1) × (256 < count)
-Stops H proved others Memory = ⊤
+abbrev pub Stops : (List ℕ → List ℕ) → List AssumeCall → List Bundle → ResolveStop → Type 0
+Stops H calls others (NoReceiptFor call) = unanswered H (placed 1 others) 0 calls ≡ Some call
+Stops H calls others (TooManyEntries count) = (unanswered H (placed 1 others) 0 calls ≡ None) × (count ≡ length (placed 1 others) + 1) × (256 < count)
+Stops H calls others Memory = ⊤

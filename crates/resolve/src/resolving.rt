@@ -1,6 +1,7 @@
-ghost use Rattle.std.specs.Prelude.{◌≡◌, ℕ, IfOk, IfErr};
+ghost use Rattle.std.specs.Prelude.{◌≡◌, ◌<◌, ◌≤◌, ℕ, length, IfOk, IfErr};
 ghost use Rattle.claim_types.specs.declared.claim.Exit.TheVariants.{Halted as HaltedWith};
 ghost use Rattle.claim_types.specs.States.{state_digest};
+ghost use Rattle.receipt_types.specs.Limits.{AllSealLimits, KeepsLimits};
 ghost use Rattle.check_core.specs.Judgement.{Accepts};
 ghost use Rattle.resolve.specs.Resolving.{bundles_of, IsResolved, Stops};
 
@@ -30,7 +31,9 @@ pub fn resolve<D: Digester>(
     requires halted { (code : ℕ) × (joined.now.claim.exit ≡ HaltedWith code) }
     ensures bundle { IfOk result (λ bundle. IsResolved D.digest_of joined.now (bundles_of others.now) bundle) }
     ensures accepted { IfOk result (λ bundle. Accepts D.digest_of bundle (state_digest D.digest_of joined.now.claim.before)) }
-    ensures stop { IfErr result (λ stop. Stops D.digest_of joined.now (bundles_of others.now) stop) }
+    // It keeps the limits of a receipt, where what is proved does, as the others do.
+    ensures limits { IfOk result (λ bundle. AllSealLimits joined.now.seals → 0 < length joined.now.seals → length joined.now.seals ≤ 65535 → length joined.now.claim.calls ≤ 16777216 → KeepsLimits bundle) }
+    ensures stop { IfErr result (λ stop. Stops D.digest_of joined.now.claim.calls (bundles_of others.now) stop) }
 {
     let claims = claims_of(alloc, others)?;
     let links = find_links::<D>(alloc, joined.claim().calls.as_slice(), claims.as_slice())?;

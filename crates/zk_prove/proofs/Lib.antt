@@ -3,8 +3,9 @@ pub mod Limits
 pub mod Printing
 pub mod Told
 pub mod Reading
+pub mod Receiving
 pub mod Answered
-pub mod Reporting
+pub mod Calls
 pub mod Images
 pub mod Proved
 pub mod Ended

@@ -1,10 +1,10 @@
 -- What words and their digits tell.
-use Rattle.std.proofs.Common.{◌≡◌, ℕ, ◌^◌, ◌<◌, Option, Some, None, subst, Bool, true, false, not, eqb, List, [], ◌∷◌, length, get_or, Ok, Err, Result, sym, ap, ◌∙◌, arith}
+use Rattle.std.proofs.Common.{◌≡◌, ℕ, ◌^◌, ◌<◌, ◌≤◌, ◌-◌, Option, Some, None, subst, Bool, true, false, not, eqb, List, [], ◌∷◌, length, drop, take, get_or, Ok, Err, Result, sym, ap, ◌∙◌, arith}
 use Rattle.std.specs.Prelude.{decimal, IfSome, IfNone}
 use Rattle.std.specs.Str.{bytes_eq}
 use Rattle.std.proofs.lemmas.Fmt.{decimal_injective}
 use Rattle.std.proofs.lemmas.Bool.{eqb-true}
-use Rattle.std.proofs.lemmas.List.{nil_from_length}
+use Rattle.std.proofs.lemmas.List.{nil_from_length, take_rest}
 use Rattle.std.proofs.lemmas.Slice.Eq.{bytes_eq-Decides}
 
 pub ok_not_err : {E : Type 0} (n : ℕ) (e : E) → ◌≡◌ {A = Result ℕ E} (Ok n) (Err e) → ⊥
@@ -48,16 +48,42 @@ four_items (x ∷ y ∷ z ∷ []) a b c d n p q r s = absurd (omega (arith, n))
 four_items (x ∷ y ∷ z ∷ w ∷ []) a b c d n p q r s = λ i. sym p i ∷ sym q i ∷ sym r i ∷ sym s i ∷ []
 four_items (x ∷ y ∷ z ∷ w ∷ v ∷ rest) a b c d n p q r s = absurd (omega (arith, n))
 
--- and of eight
-pub eight_items : {A : Type 0} (xs : List A) (a b c d e f g h : A) → length xs ≡ 8 → a ≡ get_or xs 0 a → b ≡ get_or xs 1 b → c ≡ get_or xs 2 c → d ≡ get_or xs 3 d → e ≡ get_or xs 4 e → f ≡ get_or xs 5 f → g ≡ get_or xs 6 g
-    → h ≡ get_or xs 7 h → xs ≡ a ∷ b ∷ c ∷ d ∷ e ∷ f ∷ g ∷ h ∷ []
-eight_items [] a b c d e f g h n p q r s t u v w = absurd (omega (arith, n))
-eight_items (x0 ∷ []) a b c d e f g h n p q r s t u v w = absurd (omega (arith, n))
-eight_items (x0 ∷ x1 ∷ []) a b c d e f g h n p q r s t u v w = absurd (omega (arith, n))
-eight_items (x0 ∷ x1 ∷ x2 ∷ []) a b c d e f g h n p q r s t u v w = absurd (omega (arith, n))
-eight_items (x0 ∷ x1 ∷ x2 ∷ x3 ∷ rest) a b c d e f g h n p q r s t u v w =
-    let others = four_items rest e f g h (omega (arith, n)) t u v w in
+-- a list that begins with four items
+four_then : {A : Type 0} (xs : List A) (a b c d : A) → 4 ≤ length xs → a ≡ get_or xs 0 a → b ≡ get_or xs 1 b → c ≡ get_or xs 2 c → d ≡ get_or xs 3 d → xs ≡ a ∷ b ∷ c ∷ d ∷ drop 4 xs
+four_then [] a b c d n p q r s = absurd (omega (arith, n))
+four_then (x ∷ []) a b c d n p q r s = absurd (omega (arith, n))
+four_then (x ∷ y ∷ []) a b c d n p q r s = absurd (omega (arith, n))
+four_then (x ∷ y ∷ z ∷ []) a b c d n p q r s = absurd (omega (arith, n))
+four_then (x ∷ y ∷ z ∷ w ∷ rest) a b c d n p q r s = λ i. sym p i ∷ sym q i ∷ sym r i ∷ sym s i ∷ rest
+
+eight_drop : {A : Type 0} (xs : List A) (a b c d e f g h : A) → 8 ≤ length xs → a ≡ get_or xs 0 a → b ≡ get_or xs 1 b → c ≡ get_or xs 2 c → d ≡ get_or xs 3 d → e ≡ get_or xs 4 e → f ≡ get_or xs 5 f → g ≡ get_or xs 6 g
+    → h ≡ get_or xs 7 h → xs ≡ a ∷ b ∷ c ∷ d ∷ e ∷ f ∷ g ∷ h ∷ drop 8 xs
+eight_drop [] a b c d e f g h n p q r s t u v w = absurd (omega (arith, n))
+eight_drop (x0 ∷ []) a b c d e f g h n p q r s t u v w = absurd (omega (arith, n))
+eight_drop (x0 ∷ x1 ∷ []) a b c d e f g h n p q r s t u v w = absurd (omega (arith, n))
+eight_drop (x0 ∷ x1 ∷ x2 ∷ []) a b c d e f g h n p q r s t u v w = absurd (omega (arith, n))
+eight_drop (x0 ∷ x1 ∷ x2 ∷ x3 ∷ rest) a b c d e f g h n p q r s t u v w =
+    let others = four_then rest e f g h (omega (arith, n)) t u v w in
     λ i. sym p i ∷ sym q i ∷ sym r i ∷ sym s i ∷ others i
+
+-- one that begins with eight, and what is after them
+abbrev pub after_eight : {A : Type 0} → List A → List A
+after_eight xs = take (length xs - 8) (drop 8 xs)
+
+pub eight_then : {A : Type 0} (xs : List A) (a b c d e f g h : A) → 8 ≤ length xs → a ≡ get_or xs 0 a → b ≡ get_or xs 1 b → c ≡ get_or xs 2 c → d ≡ get_or xs 3 d → e ≡ get_or xs 4 e → f ≡ get_or xs 5 f → g ≡ get_or xs 6 g
+    → h ≡ get_or xs 7 h → xs ≡ a ∷ b ∷ c ∷ d ∷ e ∷ f ∷ g ∷ h ∷ after_eight xs
+eight_then {A} xs a b c d e f g h n p q r s t u v w = eight_drop xs a b c d e f g h n p q r s t u v w ∙ ap (λ (rest : List A). a ∷ b ∷ c ∷ d ∷ e ∷ f ∷ g ∷ h ∷ rest) (sym (take_rest xs 8))
+
+-- the names among eight words, and what is after them, are the same in two such lists
+pub record SameNames {A : Type 0} (b c d b' c' d' : A) (rest rest' : List A) : Type 0 where
+  pub first : b ≡ b'
+  pub second : c ≡ c'
+  pub third : d ≡ d'
+  pub others : rest ≡ rest'
+
+pub same_names : {A : Type 0} (a b c d e f g h a' b' c' d' e' f' g' h' : A) (rest rest' : List A) → a ∷ b ∷ c ∷ d ∷ e ∷ f ∷ g ∷ h ∷ rest ≡ a' ∷ b' ∷ c' ∷ d' ∷ e' ∷ f' ∷ g' ∷ h' ∷ rest'
+    → SameNames b c d b' c' d' rest rest'
+same_names a b c d e f g h a' b' c' d' e' f' g' h' rest rest' is = record { first = cc; second = cc; third = cc; others = cc }
 
 pub not_empty : {A : Type 0} (b : Bool) (x : List A) → b ≡ eqb (length x) 0 → b ≡ false → x ≡ [] → ⊥
 not_empty {A} b x is e none = false_not_true (sym e ∙ is ∙ ap (λ (y : List A). eqb (length y) 0) none)

@@ -4,10 +4,11 @@ use Rattle.byte_cursor.specs.Growing.{Growing}
 use Rattle.outside.specs.Files.{Files}
 use Rattle.elf_image.specs.Loaded.{Loads, image_of}
 use Rattle.zk_prove.specs.declared.guest.Guest.{Guest}
+use Rattle.zk_prove.specs.Words.{file_limit}
 use Rattle.zk_prove.specs.Guests.{IsInput}
 use Rattle.zk_prove.specs.Read.{IsOfFile, IsOfGuest}
 
-pub holds_guest : (elf input : List ℕ) (guest : Guest) (first second : Growing ℕ) (told : Option Files) → IsOfFile elf told (Ok first) → IsOfFile input told (Ok second)
+pub holds_guest : (elf input : List ℕ) (guest : Guest) (first second : Growing ℕ) (told : Option Files) → IsOfFile file_limit elf told (Ok first) → IsOfFile file_limit input told (Ok second)
     → Loads first.items (image_of guest.image) → IsInput second.items guest.words.items → IsOfGuest elf input told (Ok guest)
 holds_guest elf input guest first second None read others loads is_input = tt
 holds_guest elf input guest first second (Some files) read others loads is_input = record {

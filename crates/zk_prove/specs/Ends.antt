@@ -4,13 +4,15 @@ use Rattle.std.specs.Io.KnownBytes.{append_known}
 use Rattle.outside.specs.Files.{Files, stored}
 use Rattle.rv_step.specs.Runs.{start, IsOutcome}
 use Rattle.rv_step.specs.declared.outcome.Outcome.TheVariants.{Halted}
+use Rattle.receipt_types.specs.Bundles.{Bundle}
 use Rattle.check_core.specs.Reports.{Report, report_of}
 use Rattle.cli_text.specs.declared.status.Status.TheVariants.{Done}
 use Rattle.cli_text.specs.Reports.{proved_lines}
 use Rattle.zk_prove.specs.Words.{Job, Proof, Names, NamesProof}
 use Rattle.zk_prove.specs.Guests.{HasGuest}
 use Rattle.zk_prove.specs.Answers.{IsExecuted}
-use Rattle.zk_prove.specs.Proving.{bundle_of, IsReceipt}
+use Rattle.zk_prove.specs.Others.{HasOthers}
+use Rattle.zk_prove.specs.Proving.{IsReceipt}
 
 -- the words name a job, the uncut run of whose guest halts within the limit, and the sink has exactly its lines appended
 pub record IsHaltedPut (words : List (List ℕ)) (files : Files) (taken taken' : Option (List ℕ)) : Type 0 where
@@ -22,7 +24,7 @@ pub record IsHaltedPut (words : List (List ℕ)) (files : Files) (taken taken' :
   pub put : taken' ≡ append_known taken lines
 
 -- the words name a proof, the run of whose guest halts; the receipt's name holds exactly the bytes that spell the bundle of that
--- run's segments, other names are as before, and the sink has exactly the lines of its report appended
+-- run's segments and the other receipts' entries, other names are as before, and the sink has exactly the lines of its report appended
 pub record IsProvedPut (H : List ℕ → List ℕ) (words : List (List ℕ)) (files : Files) (told' : Option Files) (taken taken' : Option (List ℕ)) : Type 0 where
   pub proof : Proof
   pub names : NamesProof words proof
@@ -30,10 +32,12 @@ pub record IsProvedPut (H : List ℕ → List ℕ) (words : List (List ℕ)) (fi
   pub code : ℕ
   pub ends : IsOutcome (start guest.image guest.words) proof.limits.limit (Halted code)
   pub bytes : List ℕ
-  pub is_receipt : IsReceipt H proof.limits guest.image guest.words code ends bytes
+  pub bundles : List Bundle
+  pub others : HasOthers H files proof.others bundles
+  pub is_receipt : IsReceipt H proof.limits guest.image guest.words bundles code ends bytes
   pub written : told' ≡ Some (stored proof.receipt bytes files)
   pub report : Report
-  pub reports : report_of H (bundle_of H proof.limits (start guest.image guest.words)) ≡ Some report
+  pub reports : report_of H is_receipt.bundle ≡ Some report
   pub put : taken' ≡ append_known taken (proved_lines report (length bytes))
 
 abbrev pub OnFiles : Option Files → (Files → Type 0) → Type 0

@@ -33,16 +33,16 @@ pub record HasGuest (elf input : List ℕ) (files : Files) : Type 0 where
   pub is_input : IsInput bytes words
 
 -- ---- the causes for which they don't, in their order
--- a file of a name isn't there, or is too long
-abbrev pub NotRead : List ℕ → Option (List ℕ) → Status → List ℕ → Type 0
-NotRead name None status lines = (status ≡ NoFile) × (lines ≡ no_file_lines name)
-NotRead name (Some bytes) status lines = (file_limit < length bytes) × (status ≡ TooLong) × (lines ≡ too_long_lines name)
+-- a file of a name isn't there, or is longer than its limit
+abbrev pub NotRead : ℕ → List ℕ → Option (List ℕ) → Status → List ℕ → Type 0
+NotRead limit name None status lines = (status ≡ NoFile) × (lines ≡ no_file_lines name)
+NotRead limit name (Some bytes) status lines = (limit < length bytes) × (status ≡ TooLong) × (lines ≡ too_long_lines name)
 
--- it is there and within the limit, and this is true of its bytes
-pub record IsRead (held : Option (List ℕ)) (P : List ℕ → Type 0) : Type 0 where
+-- it is there and within its limit, and this is true of its bytes
+pub record IsRead (limit : ℕ) (held : Option (List ℕ)) (P : List ℕ → Type 0) : Type 0 where
   pub bytes : List ℕ
   pub is_held : held ≡ Some bytes
-  pub within : length bytes ≤ file_limit
+  pub within : length bytes ≤ limit
   pub answers : P bytes
 
 pub record IsBadElf (bytes : List ℕ) (status : Status) (lines : List ℕ) : Type 0 where
@@ -58,13 +58,13 @@ pub record IsBadInput (bytes : List ℕ) (status : Status) (lines : List ℕ) : 
 
 -- the ELF file loads an image, and then the input file isn't read or is no input
 pub record HasNoInput (elf input : List ℕ) (files : Files) (status : Status) (lines : List ℕ) : Type 0 where
-  pub loaded : IsRead (files elf) (λ bytes. (image : Image) × Loads bytes image)
-  pub answers : NotRead input (files input) status lines ⊎ IsRead (files input) (λ bytes. IsBadInput bytes status lines)
+  pub loaded : IsRead file_limit (files elf) (λ bytes. (image : Image) × Loads bytes image)
+  pub answers : NotRead file_limit input (files input) status lines ⊎ IsRead file_limit (files input) (λ bytes. IsBadInput bytes status lines)
 
 abbrev pub HasNoGuest : List ℕ → List ℕ → Files → Status → List ℕ → Type 0
 HasNoGuest elf input files status lines =
-    NotRead elf (files elf) status lines
-    ⊎ (IsRead (files elf) (λ bytes. IsBadElf bytes status lines)
+    NotRead file_limit elf (files elf) status lines
+    ⊎ (IsRead file_limit (files elf) (λ bytes. IsBadElf bytes status lines)
     ⊎ HasNoInput elf input files status lines)
 
 -- the status of such an answer

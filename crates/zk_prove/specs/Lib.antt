@@ -1,6 +1,7 @@
 pub mod Words
 pub mod Lines
 pub mod Guests
+pub mod Others
 pub mod Answers
 pub mod Proving
 pub mod Read

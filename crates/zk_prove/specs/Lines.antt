@@ -1,6 +1,8 @@
 -- The lines that are printed.
-use Rattle.std.specs.Prelude.{ℕ, List, ◌++◌, length, codes, decimal}
+use Rattle.std.specs.Prelude.{ℕ, List, [], ◌++◌, length, codes, decimal}
 use Rattle.rv_isa.specs.declared.fault.Fault.{Fault}
+use Rattle.resolve.specs.declared.stop.ResolveStop.{ResolveStop}
+use Rattle.resolve.specs.declared.stop.ResolveStop.TheVariants.{NoReceiptFor, TooManyEntries, Memory}
 use Rattle.cli_text.specs.Lines.{line, journal_tail}
 use Rattle.cli_text.specs.Faults.{hex_word, fault_text}
 
@@ -30,6 +32,8 @@ over_limit_lines step = line (codes "over-limit " ++ decimal step)
 abbrev pub too_many_seals_lines : List ℕ
 too_many_seals_lines = line (codes "too-many-seals")
 
--- no receipt answers this assumption call
-abbrev pub no_receipt_lines : ℕ → List ℕ
-no_receipt_lines call = line (codes "no-receipt " ++ decimal call)
+-- no entry answers this assumption call, or there are too many entries; want of memory is no refusal and has no line
+abbrev pub unresolved_lines : ResolveStop → List ℕ
+unresolved_lines (NoReceiptFor call) = line (codes "no-receipt " ++ decimal call)
+unresolved_lines (TooManyEntries count) = line (codes "too-many-entries " ++ decimal count)
+unresolved_lines Memory = []

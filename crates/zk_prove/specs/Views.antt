@@ -1,5 +1,5 @@
 -- What the jobs and the answers are seen as.
-use Rattle.std.specs.Prelude.{ℕ, List, Option, option_map}
+use Rattle.std.specs.Prelude.{ℕ, List, map, string_bytes, Option, option_map}
 use Rattle.zk_prove.specs.declared.job.Job.{Job as NamedJob}
 use Rattle.zk_prove.specs.declared.job.Proof.{Proof as NamedProof}
 use Rattle.zk_prove.specs.Words.{Job, Proof}
@@ -11,7 +11,7 @@ abbrev pub job : NamedJob → Job
 job named = record { elf = named.elf.now; input = named.input.now; limit = named.limit }
 
 abbrev pub proof : NamedProof → Proof
-proof named = record { elf = named.elf.now; input = named.input.now; receipt = named.receipt.now; limits = named.limits }
+proof named = record { elf = named.elf.now; input = named.input.now; receipt = named.receipt.now; limits = named.limits; others = map string_bytes named.others.now }
 
 -- the receipt, if there is one, under its name
 abbrev pub kept : List ℕ → Option (Growing ℕ) → Option Kept

@@ -13,7 +13,7 @@ use elf_image::{ElfStop, Image, load};
 use outside::{Desk, ReadAllStop, read_all};
 use std::alloc::Global;
 
-// The most bytes of a file that is read.
+// The most bytes of an ELF file and of an input file.
 const MOST_BYTES: u64 = 67_108_864;
 
 // A guest's image and its input words.
@@ -33,10 +33,11 @@ pub(crate) fn read_guest<K: Desk>(
 ) -> Result<Result<Guest, Printed>, Status>
     ensures guest { IfOk result (λ read. IsOfGuest elf.now input.now (K.contents desk.old) read) }
     ensures silent { IfErr result (λ status. (status ≡ Status.Memory) ⊎ ((status ≡ Status.ReadFault) × Rose (K.read_faults desk.old) (K.read_faults desk.new))) }
+    ensures reads { K.read_faults desk.old ≤ K.read_faults desk.new }
     ensures files { K.contents desk.new ≡ K.contents desk.old }
     ensures writes { K.write_faults desk.new ≡ K.write_faults desk.old }
 {
-    let bytes = match read_file(alloc, desk, elf)? {
+    let bytes = match read_file(alloc, desk, elf, MOST_BYTES)? {
         Ok(bytes) => bytes,
         Err(printed) => return Ok(Err(printed)),
     };
@@ -44,7 +45,7 @@ pub(crate) fn read_guest<K: Desk>(
         Ok(image) => image,
         Err(printed) => return Ok(Err(printed)),
     };
-    let bytes = match read_file(alloc, desk, input)? {
+    let bytes = match read_file(alloc, desk, input, MOST_BYTES)? {
         Ok(bytes) => bytes,
         Err(printed) => return Ok(Err(printed)),
     };
@@ -80,20 +81,22 @@ fn load_words(alloc: Global, bytes: &[u8]) -> Result<Result<WordList, Printed>, 
     }
 }
 
-// The bytes of a file of at most 2^26 bytes; or the answer where it isn't there or is longer, or the status of an end that
-// prints nothing.
-fn read_file<K: Desk>(
+// The bytes of a file of at most this many bytes; or the answer where it isn't there or is longer, or the status of an end
+// that prints nothing.
+pub(crate) fn read_file<K: Desk>(
     alloc: Global,
     desk: &mut K,
     name: &str,
+    limit: u64,
 ) -> Result<Result<ByteList, Printed>, Status>
-    ensures file { IfOk result (λ read. IsOfFile name.now (K.contents desk.old) read) }
+    ensures file { IfOk result (λ read. IsOfFile limit name.now (K.contents desk.old) read) }
+    ensures unread { IfOk result (λ read. IfErr read (λ printed. (printed.status ≡ Status.NoFile) ⊎ (printed.status ≡ Status.TooLong))) }
     ensures silent { IfErr result (λ status. (status ≡ Status.Memory) ⊎ ((status ≡ Status.ReadFault) × Rose (K.read_faults desk.old) (K.read_faults desk.new))) }
     ensures files { K.contents desk.new ≡ K.contents desk.old }
     ensures reads { K.read_faults desk.old ≤ K.read_faults desk.new }
     ensures writes { K.write_faults desk.new ≡ K.write_faults desk.old }
 {
-    match read_all(alloc, desk, name, MOST_BYTES) {
+    match read_all(alloc, desk, name, limit) {
         Ok(bytes) => Ok(Ok(bytes)),
         Err(ReadAllStop::NoFile) => Ok(Err(or_memory(Printed::no_file(alloc, name))?)),
         Err(ReadAllStop::TooLong) => Ok(Err(or_memory(Printed::too_long(alloc, name))?)),

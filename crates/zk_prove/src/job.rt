@@ -1,4 +1,4 @@
-ghost use Rattle.std.specs.Prelude.{◌≡◌, ℕ, ◌^◌, ◌<◌, map, string_bytes, decimal, IfOk, IfSome, IfNone};
+ghost use Rattle.std.specs.Prelude.{◌≡◌, ◌≢◌, ℕ, ◌^◌, ◌<◌, [], All, map, string_bytes, decimal, IsTrue, IsFalse, IfOk, IfSome, IfNone};
 ghost use Rattle.zk_prove.specs.Words.{IsLimit, Names, NamesProof};
 ghost use Rattle.zk_prove.specs.Words as plain;
 ghost use Rattle.zk_prove.specs.Views.{job, proof};
@@ -17,13 +17,14 @@ pub(crate) struct Job<'a> {
     pub limit: u64,
 }
 
-// The receipt that the words ask for: of such a run, cut within limits.
+// The receipt that the words ask for: of such a run, cut within limits, with the names of other receipts.
 #[derive(Drop)]
 pub(crate) struct Proof<'a> {
     pub elf: &'a str,
     pub input: &'a str,
     pub receipt: &'a str,
     pub limits: Limits,
+    pub others: &'a [String],
 }
 
 // The job of `exec` that the words name, if they name one.
@@ -52,14 +53,25 @@ pub(crate) fn parse_proof<'a>(
     ensures some { IfOk result (λ parsed. IfSome parsed (λ named. NamesProof (map string_bytes words.now) (proof named))) }
     ensures none { IfOk result (λ parsed. IfNone parsed ((named : plain.Proof) → NamesProof (map string_bytes words.now) named → ⊥)) }
 {
-    let [command, elf, input, receipt, cycles, pages, limit, workers] = words else {
+    let [
+        command,
+        elf,
+        input,
+        receipt,
+        cycles,
+        pages,
+        limit,
+        workers,
+        others @ ..,
+    ] = words
+    else {
         return Ok(None);
     };
     let (elf, input, receipt) = (elf.as_str(), input.as_str(), receipt.as_str());
     if command.as_str() != "prove" || workers.as_str() != "0" {
         return Ok(None);
     }
-    if elf.is_empty() || input.is_empty() || receipt.is_empty() {
+    if elf.is_empty() || input.is_empty() || receipt.is_empty() || any_empty(others) {
         return Ok(None);
     }
     match limits_of(alloc, cycles.as_str(), pages.as_str(), limit.as_str())? {
@@ -68,9 +80,23 @@ pub(crate) fn parse_proof<'a>(
             input,
             receipt,
             limits,
+            others,
         })),
         None => Ok(None),
     }
+}
+
+// Whether one of these words is empty.
+fn any_empty(words: &[String]) -> bool
+    ensures none { IsFalse result → All (λ word. word ≢ []) (map string_bytes words.now) }
+    ensures some { IsTrue result → All (λ word. word ≢ []) (map string_bytes words.now) → ⊥ }
+{
+    for word in words {
+        if word.as_str().is_empty() {
+            return true;
+        }
+    }
+    false
 }
 
 // The limits that three words tell, if each is a number of its range.

@@ -9,6 +9,9 @@ mod input;
 mod job;
 #[cfg(test)]
 mod made;
+mod others;
+#[cfg(test)]
+mod others_tests;
 #[cfg(test)]
 mod prove_tests;
 mod proving;

@@ -1,10 +1,11 @@
 //! The lines of the answers.
 ghost use Rattle.std.specs.Prelude.{◌≡◌, length, string_bytes, IfOk};
 ghost use Rattle.cli_text.specs.declared.status.Status.TheVariants.{Words, BadFile};
-ghost use Rattle.zk_prove.specs.Lines.{usage_lines, bad_input_lines, halted_lines, faulted_lines, over_limit_lines, too_many_seals_lines, no_receipt_lines};
+ghost use Rattle.zk_prove.specs.Lines.{usage_lines, bad_input_lines, halted_lines, faulted_lines, over_limit_lines, too_many_seals_lines, unresolved_lines};
 
 use cli_text::{Printed, Status, fault_text, hex_word, journal_text};
 use flat_machine::Flat;
+use resolve::ResolveStop;
 use rv_isa::Fault;
 use std::alloc::{AllocError, Global};
 
@@ -69,9 +70,13 @@ pub(crate) fn too_many_seals(alloc: Global) -> Result<String, AllocError>
     String::from_str(alloc, "too-many-seals\n")
 }
 
-// The line of a run this call of which no receipt answers.
-pub(crate) fn no_receipt(alloc: Global, call: u64) -> Result<String, AllocError>
-    ensures { IfOk result (λ text. string_bytes text ≡ no_receipt_lines call) }
+// The line of a run that can't be put together with the other receipts; nothing for want of memory.
+pub(crate) fn unresolved_text(alloc: Global, stop: &ResolveStop) -> Result<String, AllocError>
+    ensures { IfOk result (λ text. string_bytes text ≡ unresolved_lines stop.now) }
 {
-    format!(in alloc; "no-receipt {call}\n")
+    match *stop {
+        ResolveStop::NoReceiptFor { call } => format!(in alloc; "no-receipt {call}\n"),
+        ResolveStop::TooManyEntries { count } => format!(in alloc; "too-many-entries {count}\n"),
+        ResolveStop::Memory => Ok(String::new(alloc)),
+    }
 }

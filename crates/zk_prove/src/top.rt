@@ -3,15 +3,19 @@ ghost use Rattle.outside.specs.Faults.{Rose};
 ghost use Rattle.cli_text.specs.Ends.{Ends, EndsWriting, IsPrinted, MayFailWrite, written};
 ghost use Rattle.zk_prove.specs.Views.{job as seen, proof as seen_proof, kept};
 ghost use Rattle.zk_prove.specs.Answers.{Answers, AnswersJob};
-ghost use Rattle.zk_prove.specs.Proving.{AnswersAll, AnswersProof};
+ghost use Rattle.elf_image.specs.Loaded.{image_of};
+ghost use Rattle.resolve.specs.Resolving.{bundles_of};
+ghost use Rattle.zk_prove.specs.Proving.{AnswersAll, AnswersProof, IsSession, IsKept};
 ghost use Rattle.zk_prove.specs.Ends.{OnFiles, IsHaltedPut, IsProvedPut};
 
 use crate::execute::execute;
 use crate::gate::Gate;
-use crate::guest::read_guest;
+use crate::guest::{Guest, read_guest};
 use crate::job::{Job, Proof, parse, parse_proof};
+use crate::others::read_others;
 use crate::proving::{Answer, prove_guest};
 use crate::texts::usage;
+use check_core::Checked;
 use cli_text::{Printed, Status, or_memory};
 use digest_core::Digester;
 use outside::{Desk, Failed, Sink};
@@ -20,9 +24,10 @@ use std::sync::Wait;
 use std::thread::Threads;
 
 /// Answers the words `prove`, the names of an ELF file, an input file and a receipt, the most that a segment costs, the most
-/// pages that it touches, a limit and the number of workers, which is 0: runs the guest on the input's words under the
-/// limit on its cost, writes the receipt of its run and prints its report in one put. Answers other words as `exec_top`
-/// does. No file is written where it refuses.
+/// pages that it touches, a limit and the number of workers, which is 0, and then the names of other receipts: runs the guest
+/// on the input's words under the limit on its cost, writes the receipt of its run, whose assumption calls are linked to
+/// entries of the other receipts, and prints its report in one put. Answers other words as `exec_top` does. No file is
+/// written where it refuses.
 pub fn prove_top<D: Digester, K: Desk, O: Sink, G: Gate, R: Threads + Wait + Sync>(
     _rt: &R,
     alloc: Global,
@@ -33,8 +38,8 @@ pub fn prove_top<D: Digester, K: Desk, O: Sink, G: Gate, R: Threads + Wait + Syn
 ) -> Status
     // With status 0 the words are those of `exec`, and the uncut run of the image and the input that the files hold, where told, halts within the
     // limit and has its lines appended to the sink; or they are those of `prove`, and the receipt's name holds exactly the bytes that spell the
-    // bundle of that run's segments, whose chain is the run's claim, and which is accepted under the image's id; and the lines of its report are
-    // appended.
+    // bundle of that run's segments and of the other receipts, the chain of whose entry 0 is the run's claim, and which is accepted under the
+    // image's id; and the lines of its report are appended.
     ensures done { result ≡ Status.Done → OnFiles (K.contents desk.old) (λ files.
         IsHaltedPut (map string_bytes words.now) files (O.taken out.old) (O.taken out.new)
         ⊎ IsProvedPut D.digest_of (map string_bytes words.now) files (K.contents desk.new) (O.taken out.old) (O.taken out.new)) }
@@ -103,17 +108,39 @@ fn answer_proof<D: Digester, K: Desk>(
     ensures files { K.contents desk.new ≡ K.contents desk.old }
     ensures writes { K.write_faults desk.new ≡ K.write_faults desk.old }
 {
-    match read_guest(alloc, desk, proof.elf, proof.input)? {
+    let guest = match read_guest(alloc, desk, proof.elf, proof.input)? {
+        Ok(guest) => guest,
+        Err(printed) => {
+            return Ok(Answer {
+                printed,
+                receipt: None,
+            });
+        }
+    };
+    match read_others::<D, K>(alloc, desk, proof.others)? {
+        Ok(others) => prove_read::<D>(alloc, guest, proof, others.as_slice()),
         Err(printed) => Ok(Answer {
             printed,
             receipt: None,
         }),
-        Ok(guest) => {
-            match prove_guest::<D>(alloc, guest.image, guest.words, proof.limits, proof.receipt) {
-                Ok(answer) => Ok(answer),
-                Err(_) => Err(Status::Memory),
-            }
-        }
+    }
+}
+
+// The answer to a proof of this guest with these other receipts, or the status of want of memory.
+fn prove_read<D: Digester>(
+    alloc: Global,
+    guest: Guest,
+    proof: &Proof,
+    others: &[Checked<D>],
+) -> Result<Answer, Status>
+    ensures answer { IfOk result (λ answer. IsSession D.digest_of proof.now.limits proof.now.receipt.now (image_of guest.image) guest.words.items (bundles_of others.now) answer.printed.status (string_bytes answer.printed.text) (kept proof.now.receipt.now answer.receipt)
+        × IsKept answer.printed.status (kept proof.now.receipt.now answer.receipt)) }
+    ensures silent { IfErr result (λ status. status ≡ Status.Memory) }
+{
+    let Guest { image, words } = guest;
+    match prove_guest::<D>(alloc, image, words, proof.limits, others, proof.receipt) {
+        Ok(answer) => Ok(answer),
+        Err(_) => Err(Status::Memory),
     }
 }
 

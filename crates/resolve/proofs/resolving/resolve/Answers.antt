@@ -1,12 +1,15 @@
 use Rattle.std.proofs.Common.{◌≡◌, ◌+◌, ◌≤◌, ◌∷◌, ◌++◌, ℕ, List, length, map, Some, sym, ap, ◌∙◌, arith}
 use Rattle.claim_types.specs.Claims.{SpanClaim}
 use Rattle.receipt_types.specs.Bundles.{Entry, Bundle}
+use Rattle.receipt_types.specs.Limits.{KeepsLimits}
+use Rattle.check_core.specs.Checked.{IsAccepted}
 use Rattle.resolve.specs.Bundling.{raised, placed, links_for}
 use Rattle.resolve.specs.Resolving.{bundles_of}
 use Rattle.resolve.proofs.Links.{all_answered}
 use Rattle.resolve.proofs.Placed.{placed_all}
-use Rattle.resolve.proofs.Gathered.{claims_long, room_for_next, gathered_more, accepted_more, all_accepted}
+use Rattle.resolve.proofs.Gathered.{claims_long, room_for_next, gathered_more, all_more, all_of}
 use Rattle.resolve.proofs.Accepted.{entry_zero, parts_resolved, resolved_accepted}
+use Rattle.resolve.proofs.Keeping.{resolved_keeps}
 use Rattle.resolve.proofs.resolving.resolve.Goals as goal
 
 pub returns-then-count-gt-MOST_ENTRIES-clause-stop : goal.returns-then-count-gt-MOST_ENTRIES-clause-stop
@@ -45,7 +48,8 @@ loop-other-preserved g c =
     let here = c.loop-other-test.true in (
       c.in_ok-add_bundle.ensures ∙ ap (λ (B : Bundle). old ++ map (raised (length old)) B) c.bundle.ensures.value
           ∙ gathered_more c.args.others.now i other other here c.other-item.is first old c.loop-other.invariant.0,
-      accepted_more c.args.others.now i other other here c.other-item.is H c.loop-other.invariant.1 c.bundle.ensures.checked.accepted,
+      all_more c.args.others.now i other other here c.other-item.is (λ B. IsAccepted H B) c.loop-other.invariant.1 c.bundle.ensures.checked.accepted,
+      all_more c.args.others.now i other other here c.other-item.is (λ B. KeepsLimits B) c.loop-other.invariant.2 c.bundle.ensures.checked.limits,
     )
 
 pub returns-clause-accepted : goal.returns-clause-accepted
@@ -60,5 +64,23 @@ returns-clause-accepted g c =
     c.loop-other.invariant.0
     ∙ ap (λ (es : List Entry). entry_zero c.args.joined.now c.in_ok-links.links.items ∷ es) (placed_all c.args.others.now c.loop-other.other-index c.loop-other-test.false) in
     resolved_accepted H g.D.Digester.is_digest c.args.joined.now others c.loop-other.entries.items code c.claim.ensures.chain halted
-    (all_accepted H c.args.others.now c.loop-other.other-index c.loop-other-test.false c.loop-other.invariant.1)
+    (all_of (λ B. IsAccepted H B) c.args.others.now c.loop-other.other-index c.loop-other-test.false c.loop-other.invariant.1)
     (parts_resolved H c.args.joined.now others c.loop-other.entries.items c.in_ok-links.links.items linked whole)
+
+pub returns-clause-limits : goal.returns-clause-limits
+returns-clause-limits g c = λ seals some_seals few_seals few_calls.
+    let H = g.D.Digester.digest_of in
+    let others = bundles_of c.args.others.now in
+    let calls : c.as_slice.result.now ≡ c.args.joined.now.claim.calls = c.as_slice.ensures ∙ ap (λ (x : SpanClaim). x.calls) (c.behind-joined.view_is ∙ c.claim.ensures.value) in
+    let linked : links_for H (placed 1 others) c.args.joined.now.claim.calls ≡ Some c.in_ok-links.links.items =
+    ap (links_for H (placed 1 others)) (sym calls) ∙ c.in_ok-links.ensures.links (placed 1 others) (c.as_slice-2.ensures ∙ c.in_ok-claims.ensures) in
+    let whole : c.loop-other.entries.items ≡ entry_zero c.args.joined.now c.in_ok-links.links.items ∷ placed 1 others =
+    c.loop-other.invariant.0
+    ∙ ap (λ (es : List Entry). entry_zero c.args.joined.now c.in_ok-links.links.items ∷ es) (placed_all c.args.others.now c.loop-other.other-index c.loop-other-test.false) in
+    let size = claims_long H c.in_ok-claims.claims.items (placed 1 others) c.in_ok-claims.ensures in
+    let count = c.len-count.ensures in
+    let low = c.if-count-gt-MOST_ENTRIES.false in
+    let long = ap length whole in
+    resolved_keeps H c.args.joined.now others c.loop-other.entries.items seals some_seals few_seals few_calls
+    (all_of (λ B. KeepsLimits B) c.args.others.now c.loop-other.other-index c.loop-other-test.false c.loop-other.invariant.2)
+    (record { is = parts_resolved H c.args.joined.now others c.loop-other.entries.items c.in_ok-links.links.items linked whole; few = omega (arith, size, count, low, long) })
