@@ -2,26 +2,7 @@
 //! ELF file.
 #![tactic(auto)]
 
-#[cfg(test)]
-mod asked;
-#[cfg(test)]
-mod guests;
-#[cfg(test)]
-mod id_tests;
-mod identifying;
-mod job;
-mod judging;
-#[cfg(test)]
-mod links_tests;
-#[cfg(test)]
-mod made;
-#[cfg(test)]
-mod seals_tests;
-#[cfg(test)]
-mod tests;
-mod top;
-mod usage;
-
+use check_calls::check_top;
 use cli_text::Status;
 use digest_core::ShaDigester;
 use outside::{DirDesk, StdSink};
@@ -38,7 +19,7 @@ fn words(rt: &HostRuntime) -> Result<Vec<String>, Status> {
 
 fn main(rt: HostRuntime) -> ExitCode {
     let status = match words(&rt) {
-        Ok(words) => top::check_top::<ShaDigester, _, _>(
+        Ok(words) => check_top::<ShaDigester, _, _>(
             rt.alloc(),
             words.as_slice(),
             &mut DirDesk::new(&rt),

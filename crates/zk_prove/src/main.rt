@@ -2,28 +2,10 @@
 //! the receipt of such a run.
 #![tactic(auto)]
 
-mod execute;
-mod gate;
-mod guest;
-mod input;
-mod job;
-#[cfg(test)]
-mod made;
-mod others;
-#[cfg(test)]
-mod others_tests;
-#[cfg(test)]
-mod prove_tests;
-mod proving;
-#[cfg(test)]
-mod tests;
-mod texts;
-mod top;
-
-use crate::gate::NoGate;
 use cli_text::Status;
 use digest_core::ShaDigester;
 use outside::{DirDesk, StdSink};
+use prove_calls::{NoGate, prove_top};
 use std::env;
 use std::process::ExitCode;
 
@@ -37,7 +19,7 @@ fn words(rt: &HostRuntime) -> Result<Vec<String>, Status> {
 
 fn main(rt: HostRuntime) -> ExitCode {
     let status = match words(&rt) {
-        Ok(words) => top::prove_top::<ShaDigester, _, _, _, _>(
+        Ok(words) => prove_top::<ShaDigester, _, _, _, _>(
             &rt,
             rt.alloc(),
             words.as_slice(),
