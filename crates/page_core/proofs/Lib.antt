@@ -3,3 +3,4 @@ pub mod Listed
 pub mod Numbered
 pub mod Ranges
 pub mod Shown
+pub mod Public

@@ -1,4 +1,5 @@
--- A memory of 2 ^ 28 bytes seen as its 262,144 pages of 1,024 bytes. Nothing is said of pages from 2 ^ 18 on.
+-- A memory as a function from page numbers to pages of 1,024 bytes. Pages from 2 ^ 18 on have bytes too; the trees and
+-- the maps of stored pages don't see them.
 use Rattle.std.specs.Prelude.{◌≡◌, ℕ, ◌<◌, List, length, All, replicate, ◌==◌, if◌then◌else◌}
 
 -- the bytes of each page, by its number

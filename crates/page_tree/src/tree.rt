@@ -50,8 +50,8 @@ impl<D: Digester> PageTree<D> {
         Ok(PageTree { top, zeros, alloc })
     }
 
-    /// How many digests were computed when the tree was made: one for each stored page and each node over one, and 19
-    /// for the heights without one. It takes no memory.
+    /// How many digests the tree has: one for each stored page and each node over one, and 19 for the heights without
+    /// one. Each was computed once, when the tree was made. It takes no memory.
     pub fn digests(&self) -> u32
         ensures exact { result ≡ nodes_up_to 18 self.now + 19 }
         ensures least { length self.now + 19 ≤ result }

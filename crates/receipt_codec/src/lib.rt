@@ -1,5 +1,5 @@
-//! Receipts from their bytes: part trees and seals, each read from the front of a cursor's bytes.
-//! What keeps its limits has one spelling, no spelling begins another, and nothing else is read.
+//! Receipts from their bytes and back: whole bundles, and the seals and part trees in them, which are read from the front
+//! of a cursor's bytes. What keeps its limits has one spelling, no spelling begins another, and nothing else is read.
 #![tactic(auto)]
 
 mod bundle;

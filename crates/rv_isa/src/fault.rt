@@ -3,8 +3,8 @@
 pub enum Fault {
     /// The fetched word is no instruction.
     Illegal(u32),
-    /// A fetch, a load or a store at or above the register page, or a host call's range that ends
-    /// above its beginning; the address, or the range's first.
+    /// A fetch, a load or a store at or above the register page, with its address; or a host call's range of at least one
+    /// byte that ends above the register page's first address, with the range's first address.
     BadAddress(u32),
     /// A halfword access at an odd address, or a word access at one that is no multiple of 4.
     Misaligned(u32),

@@ -38,12 +38,13 @@ unfoldable pub touched : State → ℕ → List ℕ
 touched s zero = []
 touched s (suc n) = touched s n ++ pages_at (after s n)
 
--- what ends a run at its step k, from the state t before that step, the earlier steps having cost c
+-- how step k, at this pc, ends a run, if it does
 abbrev pub ends_with : ℕ → ℕ → Event → Option Outcome
 ends_with k pc (Went u) = None
 ends_with k pc (Halted code) = Some (HaltedWith code)
 ends_with k pc (Faulted fault) = Some (FaultedAt fault pc k)
 
+-- what ends a run at its step k, from the state t before that step, the earlier steps having cost c
 abbrev pub verdict : ℕ → ℕ → ℕ → State → Option Outcome
 verdict limit c k t = cond (ltb limit (c + step_cost t)) (Some (OverLimit k)) (ends_with k t.pc (step_of t))
 
