@@ -1,9 +1,10 @@
 -- The exit code of a replay is a word.
 use Rattle.std.proofs.Common.{◌≡◌, inl, inr, ℕ, zero, suc, ◌+◌, ◌-◌, ◌*◌, ◌/◌, ◌%◌, ◌^◌, ◌<◌, eqb, List, [], ◌∷◌, length, get_or, replicate, Option, Some, None, refl, sym, ap, ◌∙◌, subst, arith}
+use Rattle.std.specs.Int.{w32, from_le_bytes}
 use Rattle.std.specs.Prelude.{unwrap_or}
 use Rattle.page_core.specs.Pages.{IsPage, zero_page}
 use Rattle.part_tree.specs.Part.{Part, pruned, branch, leaf, IsPart, page_at, fill}
-use Rattle.page_core.specs.Memory.{top, bytes, number_of}
+use Rattle.page_core.specs.Memory.{top, bytes}
 use Rattle.rv_isa.specs.Registers.{AreRegisters}
 use Rattle.seal_replay.specs.Replay.{enter, registers_in, words_at}
 use Rattle.claim_types.specs.declared.claim.Exit.TheVariants.{Halted as HaltedWith}
@@ -54,8 +55,8 @@ unfolding words_at
 length-words_at m a zero = refl
 length-words_at m a (suc n) = ap suc (length-words_at m (a + 4) n)
 
-small_word : (m : ℕ → ℕ) (a : ℕ) → ((a : ℕ) → m a < 256) → number_of (bytes m a 4) < 2 ^ 32
-unfolding number_of bytes
+small_word : (m : ℕ → ℕ) (a : ℕ) → ((a : ℕ) → m a < 256) → from_le_bytes w32 (bytes m a 4) < 2 ^ 32
+unfolding bytes
 small_word m a h = omega (arith, h a, h (a + 1), h (a + 1 + 1), h (a + 1 + 1 + 1))
 
 words_small : (m : ℕ → ℕ) (a n k : ℕ) → ((a : ℕ) → m a < 256) → get_or (words_at m a n) k 0 < 2 ^ 32

@@ -1,7 +1,7 @@
 -- All that is hashed are bytes.
 use Rattle.std.proofs.Common.{◌≡◌, inl, inr, ℕ, zero, suc, ◌+◌, ◌*◌, ◌<◌, Bool, true, false, ◌&&◌, ltb, List, [], ◌∷◌, ◌++◌, length, map, drop, ◌-◌, replicate, Option, Some, None, refl, sym, subst, arith}
 use Rattle.std.specs.Prelude.{Contains}
-use Rattle.std.specs.Int.{w16, w32, to_le_bytes, bytes_low_first, byte_at}
+use Rattle.std.specs.Int.{w16, w32, to_le_bytes}
 use Rattle.std.specs.List.{flat_map}
 use Rattle.std.proofs.lemmas.Bool.Decides.{nat_tests}
 use Rattle.std.proofs.lemmas.List.Elements.{All-nil, All-cons, All-append, Contains-append_cases}
@@ -12,13 +12,13 @@ use Rattle.part_tree.specs.Tree.{root, node_string, tree_strings}
 use Rattle.part_tree.specs.Part.{Part, pruned, branch, leaf, IsPart, part_strings, put}
 use Rattle.part_tree.proofs.Made.{bytes_of_root, tree_bytes, part_bytes}
 use Rattle.part_tree.proofs.Strings.{Contains-one}
-use Rattle.page_core.specs.Memory.{top, bytes_of_words}
+use Rattle.page_core.specs.Memory.{top}
 use Rattle.host_calls.specs.declared.call.AssumeCall.{AssumeCall}
 use Rattle.rv_step.specs.Machine.{State, full, full_of}
 use Rattle.claim_types.specs.declared.claim.Exit.{Exit}
 use Rattle.claim_types.specs.declared.claim.Exit.TheVariants.{Split, Halted as HaltedWith}
 use Rattle.seal_replay.specs.Replay.{ending}
-use Rattle.page_core.proofs.Bytes.{length-bytes}
+use Rattle.page_core.proofs.Bytes.{length-bytes, to_le_bytes-small, words-small}
 use Rattle.page_core.specs.Memories.{page_of}
 use Rattle.claim_types.specs.declared.state.State.{State as SystemState}
 use Rattle.claim_types.specs.States.{state_tag, state_string, zero_digest, halted_state, image_string}
@@ -31,7 +31,7 @@ use Rattle.check_core.specs.Hashed.{end_strings, seal_strings, ok_strings, claim
 use Rattle.check_core.specs.Laws.{HashedAreBytes}
 use Rattle.lift_join.proofs.Inversion.{has_claim, joins}
 use Rattle.rv_step.specs.Acts.{AreCalls, IsMade}
-use Rattle.rv_step.proofs.Made.{bytes_are, put_small, bytes_of_words-small}
+use Rattle.rv_step.proofs.Made.{bytes_are, put_small}
 use Rattle.check_core.proofs.Made.{end_made, chain_made}
 
 -- ---- lists of strings
@@ -60,18 +60,6 @@ both_bytes a b = All-append (λ (byte : ℕ). byte < 256) a b
 zero_bytes : (n : ℕ) → IsBytes (replicate n 0)
 zero_bytes zero = none_bytes
 zero_bytes (suc n) = All-cons (λ (b : ℕ). b < 256) 0 (replicate n 0) (omega arith) (zero_bytes n)
-
-byte_small : (i n : ℕ) → byte_at i n < 256
-byte_small zero n = omega arith
-byte_small (suc i) n = omega arith
-
-low_bytes : (i k n : ℕ) → IsBytes (bytes_low_first i k n)
-low_bytes i zero n = none_bytes
-low_bytes i (suc k) n = All-cons (λ (b : ℕ). b < 256) (byte_at i n) (bytes_low_first (suc i) k n) (byte_small i n) (low_bytes (suc i) k n)
-
-word_bytes : (words : List ℕ) → IsBytes (flat_map (to_le_bytes w32) words)
-word_bytes [] = none_bytes
-word_bytes (w ∷ words) = both_bytes (to_le_bytes w32 w) (flat_map (to_le_bytes w32) words) (low_bytes 0 4 w) (word_bytes words)
 
 abbrev all_small : List ℕ → Bool
 all_small [] = true
@@ -111,7 +99,7 @@ page_bytes m h i = (length-bytes m (1024 * i) 1024, bytes_are m (1024 * i) 1024 
 
 pub full_bytes : (t : State) → IsMade t → (a : ℕ) → full t a < 256
 unfolding full_of
-full_bytes t made a = put_small t.memory (top + 4) (bytes_of_words (drop 1 t.x)) a (made.memory a) (bytes_of_words-small (drop 1 t.x) (a - (top + 4)))
+full_bytes t made a = put_small t.memory (top + 4) (flat_map (to_le_bytes w32) (drop 1 t.x)) a (made.memory a) (words-small (drop 1 t.x))
 
 put_shape : (h i : ℕ) (t : Part) (m : ℕ → List ℕ) → ArePages m → IsPart h t → IsPart h (put i t m)
 put_shape h i (pruned digest) m memory shape = shape
@@ -125,8 +113,8 @@ module _ (H : List ℕ → List ℕ) (is_digest : (x : List ℕ) → IsDigest (H
   tag_bytes tag downs words h =
       both_bytes (H tag ++ flat_map (λ (d : List ℕ). d) downs ++ flat_map (to_le_bytes w32) words) (to_le_bytes w16 (length downs))
       (both_bytes (H tag ++ flat_map (λ (d : List ℕ). d) downs) (flat_map (to_le_bytes w32) words)
-      (both_bytes (H tag) (flat_map (λ (d : List ℕ). d) downs) (is_digest tag).1 h) (word_bytes words))
-      (low_bytes 0 2 (length downs))
+      (both_bytes (H tag) (flat_map (λ (d : List ℕ). d) downs) (is_digest tag).1 h) (words-small words))
+      (to_le_bytes-small w16 (length downs))
 
   one_down : (a : List ℕ) → IsBytes a → IsBytes (a ++ [])
   one_down a h = both_bytes a [] h none_bytes

@@ -1,9 +1,11 @@
 -- The memory with the registers, where a run begins.
 use Rattle.std.proofs.Common.{◌≡◌, ⊎_elim, ℕ, zero, suc, ◌+◌, ◌-◌, Bool, true, false, cond, ◌&&◌, leb, ltb, List, length, get_or, replicate, refl, sym, ap, ◌∙◌}
+use Rattle.std.specs.Int.{w32, to_le_bytes}
+use Rattle.std.specs.List.{flat_map}
 use Rattle.std.proofs.lemmas.Bool.Decides.{leb_tells}
 use Rattle.part_tree.specs.Tree.{root, tree_strings}
 use Rattle.part_tree.proofs.Change.{same_pages}
-use Rattle.page_core.specs.Memory.{top, put, bytes_of_words}
+use Rattle.page_core.specs.Memory.{top, put}
 use Rattle.rv_step.specs.Machine.{full, full_of}
 use Rattle.page_core.specs.Images.{Image, IsImage}
 use Rattle.rv_step.specs.Runs.{start}
@@ -11,8 +13,7 @@ use Rattle.rv_step.proofs.Full.{full-below}
 use Rattle.page_core.specs.Memories.{page_of}
 use Rattle.page_core.proofs.Bytes.{page_same}
 
-no_bytes : (n k : ℕ) → get_or (bytes_of_words (replicate n 0)) k 0 ≡ 0
-unfolding bytes_of_words
+no_bytes : (n k : ℕ) → get_or (flat_map (to_le_bytes w32) (replicate n 0)) k 0 ≡ 0
 no_bytes zero k = refl
 no_bytes (suc n) zero = refl
 no_bytes (suc n) (suc zero) = refl
@@ -27,7 +28,7 @@ either false x y e = refl
 zeros_in : (m : ℕ → ℕ) (a : ℕ) → m a ≡ 0 → full_of m (replicate 32 0) a ≡ m a
 unfolding full_of put
 zeros_in m a e =
-    either (leb (top + 4) a && ltb a (top + 4 + length (bytes_of_words (replicate 31 0)))) (get_or (bytes_of_words (replicate 31 0)) (a - (top + 4)) 0) (m a)
+    either (leb (top + 4) a && ltb a (top + 4 + length (flat_map (to_le_bytes w32) (replicate 31 0)))) (get_or (flat_map (to_le_bytes w32) (replicate 31 0)) (a - (top + 4)) 0) (m a)
     (no_bytes 31 (a - (top + 4)) ∙ sym e)
 
 start_byte : (image : Image) (words : List ℕ) → IsImage image → (a : ℕ) → full (start image words) a ≡ image.memory a

@@ -1,7 +1,8 @@
 -- Equal tagged strings have equal parts.
-use Rattle.std.proofs.Common.{◌≡◌, ℕ, ◌+◌, ◌/◌, ◌%◌, ◌^◌, ◌<◌, List, [], ◌∷◌, ◌++◌, length, get_or, refl, sym, ap, ◌∙◌, arith, length-append, append-nil}
-use Rattle.std.specs.Int.{w16, w32, to_le_bytes}
+use Rattle.std.proofs.Common.{◌≡◌, ℕ, ◌+◌, ◌^◌, ◌<◌, List, [], ◌∷◌, ◌++◌, length, drop, refl, sym, ap, ◌∙◌, arith, length-append, append-nil}
+use Rattle.std.specs.Int.{w16, w32, to_le_bytes, from_le_bytes}
 use Rattle.std.specs.List.{flat_map}
+use Rattle.std.proofs.lemmas.Nat.{from_le_bytes-to_le_bytes_4}
 use Rattle.part_tree.proofs.Strings.{halves}
 use Rattle.claim_types.specs.declared.claim.Exit.{Exit}
 use Rattle.claim_types.specs.declared.claim.Exit.TheVariants.{Split, Halted as HaltedWith}
@@ -45,12 +46,7 @@ four_downs z b a o b' a' o' m n e =
 
 -- ---- words
 word_same : (n m : ℕ) → n < 2 ^ 32 → m < 2 ^ 32 → flat_map (to_le_bytes w32) (n ∷ []) ≡ flat_map (to_le_bytes w32) (m ∷ []) → n ≡ m
-word_same n m small small' e =
-    let e0 : n % 256 ≡ m % 256 = ap (λ (l : List ℕ). get_or l 0 0) e in
-    let e1 : n / 256 % 256 ≡ m / 256 % 256 = ap (λ (l : List ℕ). get_or l 1 0) e in
-    let e2 : n / 65536 % 256 ≡ m / 65536 % 256 = ap (λ (l : List ℕ). get_or l 2 0) e in
-    let e3 : n / 16777216 % 256 ≡ m / 16777216 % 256 = ap (λ (l : List ℕ). get_or l 3 0) e in
-    omega arith
+word_same n m small small' e = sym (from_le_bytes-to_le_bytes_4 n small) ∙ ap (from_le_bytes w32) e ∙ from_le_bytes-to_le_bytes_4 m small'
 
 -- ---- states, outputs, claims
 pub state_parts : (H : List ℕ → List ℕ) (a b : SystemState) → length a.root ≡ length b.root → a.pc < 2 ^ 32 → b.pc < 2 ^ 32 → state_string H a ≡ state_string H b → a ≡ b
@@ -80,9 +76,4 @@ claim_parts H b a o b' a' o' x y m n k e =
     (downs.0, downs.1, downs.2, two.1)
 
 pub code_zero : (code : ℕ) → code < 2 ^ 32 → exit_bytes (HaltedWith code) ≡ exit_bytes (HaltedWith 0) → code ≡ 0
-code_zero code small e =
-    let e0 : code % 256 ≡ 0 = ap (λ (l : List ℕ). get_or l 4 0) e in
-    let e1 : code / 256 % 256 ≡ 0 = ap (λ (l : List ℕ). get_or l 5 0) e in
-    let e2 : code / 65536 % 256 ≡ 0 = ap (λ (l : List ℕ). get_or l 6 0) e in
-    let e3 : code / 16777216 % 256 ≡ 0 = ap (λ (l : List ℕ). get_or l 7 0) e in
-    omega arith
+code_zero code small e = sym (from_le_bytes-to_le_bytes_4 code small) ∙ ap (λ (l : List ℕ). from_le_bytes w32 (drop 4 l)) e

@@ -1,16 +1,17 @@
 -- Numbers in a file, lowest byte first.
 use Rattle.std.specs.Prelude.{ℕ, List, get_or}
-use Rattle.page_core.specs.Memory.{bytes, number_of}
+use Rattle.std.specs.Int.{Width, w16, w32, byte_len, from_le_bytes}
+use Rattle.page_core.specs.Memory.{bytes}
 
--- the number of the n bytes from a place on; what lies past the end is zero
-abbrev pub field : ℕ → List ℕ → ℕ → ℕ
-field n file at = number_of (bytes (λ k. get_or file k 0) at n)
+-- the number of this width from a place on; what lies past the end is zero
+abbrev pub field : Width → List ℕ → ℕ → ℕ
+field w file at = from_le_bytes w (bytes (λ k. get_or file k 0) at (byte_len w))
 
 abbrev pub byte_at : List ℕ → ℕ → ℕ
 byte_at file at = get_or file at 0
 
 abbrev pub half_at : List ℕ → ℕ → ℕ
-half_at file at = field 2 file at
+half_at file at = field w16 file at
 
 abbrev pub word_at : List ℕ → ℕ → ℕ
-word_at file at = field 4 file at
+word_at file at = field w32 file at

@@ -1,5 +1,6 @@
 -- A step with the words that another reads and the pages that it touches does what the other does.
 use Rattle.std.proofs.Common.{◌≡◌, ⊎_elim, ℕ, zero, suc, ◌/◌, ◌%◌, ◌<◌, ◌≤◌, Bool, true, false, not, cond, leb, ltb, eqb, List, [], ◌∷◌, ◌++◌, length, take, Option, Some, None, IsTrue, refl, sym, ap, ap₂, ◌∙◌, subst, arith, append_assoc}
+use Rattle.std.specs.Int.{w32, from_le_bytes}
 use Rattle.std.proofs.lemmas.Bool.Decides.{nat_tests, leb_tells}
 use Rattle.std.proofs.lemmas.List.{take-append-drop}
 use Rattle.rv_isa.specs.declared.fault.Fault.{Fault}
@@ -8,7 +9,7 @@ use Rattle.host_calls.specs.declared.call.Call.{Call}
 use Rattle.host_calls.specs.declared.call.Call.TheVariants.{Halt, Read, Commit, Assume}
 use Rattle.rv_step.specs.declared.act.Act.{Act}
 use Rattle.rv_step.specs.declared.act.Act.TheVariants.{Sets, Loads, Stores, Does, Faults}
-use Rattle.page_core.specs.Memory.{top, bytes, number_of, contains, Within}
+use Rattle.page_core.specs.Memory.{top, bytes, contains, Within}
 use Rattle.page_core.proofs.Listed.{or_split}
 use Rattle.host_calls.specs.Calls.{takes}
 use Rattle.rv_step.specs.Machine.{State, Went, Halted, Faulted, act_of_word, supplied, act, called, done, step_of, foot_of, first_closed}
@@ -74,10 +75,10 @@ module _ (pages : List ℕ) (more : Beside) (u v : State) (aligned : u.pc % 4 �
     where
       within : leb top u.pc ≡ false → u.pc < top → act u ≡ act v
       within e h =
-          let word : Act = act_of_word (number_of (bytes u.memory u.pc 4)) u.pc u.x in
-          let decoded : act_of_word (number_of (bytes v.memory v.pc 4)) v.pc v.x ≡ word =
-          ap₂ (λ p x. act_of_word (number_of (bytes v.memory p 4)) p x) same.pc same.x
-          ∙ ap (λ bs. act_of_word (number_of bs) u.pc u.x) (fetch_back h) in
+          let word : Act = act_of_word (from_le_bytes w32 (bytes u.memory u.pc 4)) u.pc u.x in
+          let decoded : act_of_word (from_le_bytes w32 (bytes v.memory v.pc 4)) v.pc v.x ≡ word =
+          ap₂ (λ p x. act_of_word (from_le_bytes w32 (bytes v.memory p 4)) p x) same.pc same.x
+          ∙ ap (λ bs. act_of_word (from_le_bytes w32 bs) u.pc u.x) (fetch_back h) in
           let of_v : act v ≡ supplied (length v.words) word = act_in v (ap (leb top) same.pc ∙ e) ∙ ap (supplied (length v.words)) decoded in
           act_in u e
           ∙ supplied_back (length u.words) (length v.words) word (λ call d. has call (of_v ∙ d)) (λ f d. fine f (of_v ∙ d))

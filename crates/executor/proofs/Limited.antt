@@ -1,14 +1,16 @@
 -- The seals of an image's run keep the limits of a receipt. H is the digest function.
 use Rattle.std.proofs.Common.{◌≡◌, ⊎_elim, ℕ, zero, suc, ◌+◌, ◌-◌, ◌*◌, ◌^◌, ◌<◌, ◌≤◌, true, List, [], ◌∷◌, ◌++◌, length, drop, Option, Some, None, IsTrue, refl, sym, ◌∙◌, subst, arith, length-append, length-take}
+use Rattle.std.specs.Int.{w32, to_le_bytes}
+use Rattle.std.specs.List.{flat_map}
 use Rattle.std.specs.Prelude.{All}
 use Rattle.std.proofs.lemmas.Bool.Decides.{eqb_tells}
 use Rattle.std.proofs.lemmas.List.Elements.{All-nil, All-cons, All-tail, All-append, All-take}
 use Rattle.digest_core.specs.Digests.{IsDigest}
 use Rattle.page_core.specs.Images.{Image, IsImage}
-use Rattle.page_core.specs.Memory.{top, contains, ascending, bytes_of_words}
+use Rattle.page_core.specs.Memory.{top, contains, ascending}
 use Rattle.page_core.specs.Memories.{page_of}
 use Rattle.page_core.specs.Pages.{ArePages}
-use Rattle.page_core.proofs.Bytes.{length-bytes}
+use Rattle.page_core.proofs.Bytes.{length-bytes, words-small}
 use Rattle.page_core.proofs.Listed.{or_split, or_right, tells_contains}
 use Rattle.host_calls.specs.declared.call.Call.TheVariants.{Halt, Read, Commit, Assume}
 use Rattle.part_tree.specs.Canonical.{IsCanonical}
@@ -21,7 +23,7 @@ use Rattle.rv_step.specs.Machine.{State, act, full, full_of, cost_of_act, step_c
 use Rattle.rv_step.specs.Runs.{start, after, at_some, spent, touched, pages_at}
 use Rattle.rv_step.proofs.Feet.{foot_has_registers}
 use Rattle.rv_step.proofs.Kept.{step_keeps}
-use Rattle.rv_step.proofs.Made.{bytes_are, put_small, bytes_of_words-small}
+use Rattle.rv_step.proofs.Made.{bytes_are, put_small}
 use Rattle.rv_step.proofs.Runs.{run_keeps}
 use Rattle.flat_machine.proofs.RunFeet.{some_cost}
 use Rattle.receipt_types.specs.Limits.{SealLimits, AllSealLimits}
@@ -89,7 +91,7 @@ used_words s (suc n) h = All-append (λ (word : ℕ). word < 2 ^ 32) (used s n) 
 -- ---- pages
 full_small : (s : State) → IsMade s → (a : ℕ) → full s a < 256
 unfolding full_of
-full_small s made a = put_small s.memory (top + 4) (bytes_of_words (drop 1 s.x)) a (made.memory a) (bytes_of_words-small (drop 1 s.x) (a - (top + 4)))
+full_small s made a = put_small s.memory (top + 4) (flat_map (to_le_bytes w32) (drop 1 s.x)) a (made.memory a) (words-small (drop 1 s.x))
 
 full_pages : (s : State) → IsMade s → ArePages (page_of (full s))
 full_pages s made i = (length-bytes (full s) (1024 * i) 1024, bytes_are (full s) (1024 * i) 1024 (full_small s made))

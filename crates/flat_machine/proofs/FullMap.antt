@@ -1,10 +1,12 @@
 -- A whole memory as a map of pages, with the registers written into it.
 use Rattle.std.proofs.Common.{◌≡◌, ℕ, zero, suc, ◌+◌, ◌-◌, ◌*◌, ◌/◌, ◌%◌, ◌<◌, ◌≤◌, List, [], ◌∷◌, get_or, length, take, drop, Option, Some, None, refl, sym, ap, ap₂, ◌∙◌, arith, ⊎_elim, true, false, leb}
+use Rattle.std.specs.Int.{w32, to_le_bytes}
+use Rattle.std.specs.List.{flat_map}
 use Rattle.std.specs.Prelude.{replicate, unwrap_or, is_some, option_map}
 use Rattle.std.specs.Option.{option_or}
 use Rattle.std.proofs.lemmas.Bool.Decides.{leb_tells, nat_tests}
 use Rattle.std.proofs.Math.Seq.{take-length}
-use Rattle.page_core.specs.Memory.{top, put, bytes_of, bytes_of_words}
+use Rattle.page_core.specs.Memory.{top, put}
 use Rattle.page_core.specs.Pages.{zero_page}
 use Rattle.page_core.specs.Stored.{Stored, stored_at, first_from, memory_of}
 use Rattle.rv_step.specs.Machine.{full_of}
@@ -56,26 +58,26 @@ no_page m l n is above below = ap (λ (x : Layers). layered x n) (sym is) ∙ ap
 -- ---- the registers
 -- the registers from x1 to that before n are written into a memory
 pub record AreWritten (m : ℕ → ℕ) (map : Stored) (x : List ℕ) (n : ℕ) : Type 0 where
-  pub written : (a : ℕ) → memory_of map a ≡ put m (top + 4) (bytes_of_words (take (n - 1) (drop 1 x))) a
+  pub written : (a : ℕ) → memory_of map a ≡ put m (top + 4) (flat_map (to_le_bytes w32) (take (n - 1) (drop 1 x))) a
 
 pub written_none : (map : Stored) (x : List ℕ) → AreWritten (memory_of map) map x 1
 written_none map x = record { written = λ a. ap (λ (n : ℕ → ℕ). n a) (none_put (memory_of map) (top + 4)) }
 
 pub written_next : (m : ℕ → ℕ) (mid new : Stored) (x : List ℕ) (n v at : ℕ) → AreWritten m mid x n → 1 ≤ n → n < 32 → length x ≡ 32
-    → v ≡ get_or x n 0 → at ≡ top + 4 * n → ((a : ℕ) → memory_of new a ≡ put (memory_of mid) at (bytes_of 4 v) a) → AreWritten m new x (n + 1)
+    → v ≡ get_or x n 0 → at ≡ top + 4 * n → ((a : ℕ) → memory_of new a ≡ put (memory_of mid) at (to_le_bytes w32 v) a) → AreWritten m new x (n + 1)
 written_next m mid new [] n v at before some low size is there after = absurd (omega (arith, size))
 written_next m mid new (y ∷ x) zero v at before some low size is there after = absurd (omega arith)
 written_next m mid new (y ∷ x) (suc k) v at before some low size is there after =
     let this : suc k - 1 ≡ k = omega arith in
     let next : suc k + 1 - 1 ≡ suc k = omega arith in
-    let so_far : memory_of mid ≡ put m (top + 4) (bytes_of_words (take (suc k - 1) x)) = λ i a. before.written a i in
-    let more : memory_of new ≡ put (memory_of mid) at (bytes_of 4 v) = λ i a. after a i in
+    let so_far : memory_of mid ≡ put m (top + 4) (flat_map (to_le_bytes w32) (take (suc k - 1) x)) = λ i a. before.written a i in
+    let more : memory_of new ≡ put (memory_of mid) at (to_le_bytes w32 v) = λ i a. after a i in
     record {
       written = λ a.
           ap (λ (n : ℕ → ℕ). n a)
           (word_put m (memory_of mid) (memory_of new) (top + 4) at k v x (omega (arith, size)) (omega (arith, there)) is
-          (so_far ∙ ap (λ (j : ℕ). put m (top + 4) (bytes_of_words (take j x))) this) more
-          ∙ ap (λ (j : ℕ). put m (top + 4) (bytes_of_words (take j x))) (sym next));
+          (so_far ∙ ap (λ (j : ℕ). put m (top + 4) (flat_map (to_le_bytes w32) (take j x))) this) more
+          ∙ ap (λ (j : ℕ). put m (top + 4) (flat_map (to_le_bytes w32) (take j x))) (sym next));
     }
 
 pub written_all : (m : ℕ → ℕ) (map : Stored) (x : List ℕ) (n : ℕ) → n ≡ 32 → AreWritten m map x n → length x ≡ 32 → (a : ℕ) → memory_of map a ≡ full_of m x a
@@ -83,7 +85,7 @@ unfolding full_of
 written_all m map [] n all are size a = absurd (omega (arith, size))
 written_all m map (y ∷ x) n all are size a =
     let rest : n - 1 ≡ length x = omega (arith, size, all) in
-    are.written a ∙ ap (λ (xs : List ℕ). put m (top + 4) (bytes_of_words xs) a) (ap (λ (j : ℕ). take j x) rest ∙ take-length x)
+    are.written a ∙ ap (λ (xs : List ℕ). put m (top + 4) (flat_map (to_le_bytes w32) xs) a) (ap (λ (j : ℕ). take j x) rest ∙ take-length x)
 
 pub no_item : {A B : Type 0} (f : A → B) (o : Option A) → is_some o ≡ false → option_map f o ≡ None
 no_item f None h = refl

@@ -1,7 +1,12 @@
 -- Reading and writing ranges of bytes, by pages.
 use Rattle.std.proofs.Common.{◌≡◌, ℕ, zero, suc, ◌+◌, ◌-◌, ◌*◌, ◌/◌, ◌%◌, ◌<◌, ◌≤◌, true, cond, ◌&&◌, leb, ltb, List, [], ◌∷◌, length, get_or, refl, sym, ap, ap₂, ◌∙◌, arith, IsTrue, ◌⊎◌, ⊎_elim}
-use Rattle.std.proofs.lemmas.Bool.Decides.{nat_tests, eqb_tells}
-use Rattle.page_core.specs.Memory.{bytes, put, bytes_of_words, contains, pages_from, pages_of}
+use Rattle.std.specs.Prelude.{All}
+use Rattle.std.specs.Int.{Width, w32, byte_len, byte_at, bytes_low_first, to_le_bytes}
+use Rattle.std.specs.List.{flat_map}
+use Rattle.std.proofs.lemmas.Bool.Decides.{nat_tests, eqb_tells, leb_tells}
+use Rattle.std.proofs.lemmas.List.{get_or_past}
+use Rattle.std.proofs.lemmas.List.Elements.{All-nil, All-cons, All-append}
+use Rattle.page_core.specs.Memory.{bytes, put, contains, pages_from, pages_of}
 use Rattle.page_core.specs.Pages.{Pages}
 use Rattle.page_core.specs.Memories.{page_of, flat}
 use Rattle.page_core.specs.Laws.{PagesHoldBytes, BytesHoldPages, PutReadsBack}
@@ -16,10 +21,47 @@ unfolding bytes
 length-bytes m a zero = refl
 length-bytes m a (suc k) = ap suc (length-bytes m (a + 1) k)
 
-pub length-bytes_of_words : (vs : List ℕ) → length (bytes_of_words vs) ≡ 4 * length vs
-unfolding bytes_of_words
-length-bytes_of_words [] = refl
-length-bytes_of_words (v ∷ vs) = let e : length (bytes_of_words vs) ≡ 4 * length vs = length-bytes_of_words vs in omega arith
+pub two : (m : ℕ → ℕ) (a : ℕ) → bytes m a 2 ≡ m a ∷ m (a + 1) ∷ []
+unfolding bytes
+two m a = refl
+
+pub four : (m : ℕ → ℕ) (a : ℕ) → bytes m a 4 ≡ m a ∷ m (a + 1) ∷ m (a + 2) ∷ m (a + 3) ∷ []
+unfolding bytes
+four m a =
+    let k : a + 1 + 1 ≡ a + 2 = omega arith in
+    let l : a + 1 + 1 + 1 ≡ a + 3 = omega arith in
+    ap₂ (λ i j. m a ∷ m (a + 1) ∷ m i ∷ m j ∷ []) k l
+
+-- ---- the bytes of numbers
+length-low : (i k v : ℕ) → length (bytes_low_first i k v) ≡ k
+length-low i zero v = refl
+length-low i (suc k) v = ap suc (length-low (suc i) k v)
+
+pub length-to_le_bytes : (w : Width) (v : ℕ) → length (to_le_bytes w v) ≡ byte_len w
+length-to_le_bytes w v = length-low 0 (byte_len w) v
+
+byte-small : (i v : ℕ) → byte_at i v < 256
+byte-small zero v = omega arith
+byte-small (suc i) v = omega arith
+
+low-small : (i k v : ℕ) → All (λ b. b < 256) (bytes_low_first i k v)
+low-small i zero v = All-nil (λ b. b < 256)
+low-small i (suc k) v = All-cons (λ b. b < 256) (byte_at i v) (bytes_low_first (suc i) k v) (byte-small i v) (low-small (suc i) k v)
+
+pub to_le_bytes-small : (w : Width) (v : ℕ) → All (λ b. b < 256) (to_le_bytes w v)
+to_le_bytes-small w v = low-small 0 (byte_len w) v
+
+pub length-words : (vs : List ℕ) → length (flat_map (to_le_bytes w32) vs) ≡ 4 * length vs
+length-words [] = refl
+length-words (v ∷ vs) = omega (arith, length-words vs)
+
+pub words-small : (vs : List ℕ) → All (λ b. b < 256) (flat_map (to_le_bytes w32) vs)
+words-small [] = All-nil (λ b. b < 256)
+words-small (v ∷ vs) = All-append (λ b. b < 256) (to_le_bytes w32 v) (flat_map (to_le_bytes w32) vs) (to_le_bytes-small w32 v) (words-small vs)
+
+-- an element of bytes, and 0 past their end
+pub small_in : (bs : List ℕ) → All (λ b. b < 256) bs → (i : ℕ) → get_or bs i 0 < 256
+small_in bs all i = ⊎_elim (λ t. omega (arith, get_or_past bs i 0 t.1)) (λ t. all i 0 t.1) (leb_tells (length bs) i)
 
 -- ---- pages
 pub in_pages_from : (p n q : ℕ) → p ≤ q → q < p + n → IsTrue (contains (pages_from p n) q)

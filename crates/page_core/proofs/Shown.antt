@@ -1,38 +1,14 @@
 -- Bytes of one page, as a memory of pages shows them and as they are put there.
-use Rattle.std.proofs.Common.{◌≡◌, ◌≢◌, ℕ, ◌+◌, ◌-◌, ◌*◌, ◌/◌, ◌%◌, ◌<◌, ◌≤◌, List, [], ◌∷◌, ◌++◌, length, get_or, take, drop, refl, sym, ap, ap₂, ◌∙◌, arith, inl, inr, ⊎_elim, get_or-drop, get_or-take, length-append, length-drop}
-use Rattle.std.specs.Int.{w16, w32, to_le_bytes}
+use Rattle.std.proofs.Common.{◌≡◌, ◌≢◌, ℕ, ◌+◌, ◌-◌, ◌/◌, ◌%◌, ◌<◌, ◌≤◌, List, [], ◌∷◌, ◌++◌, length, get_or, take, drop, sym, ap, ap₂, ◌∙◌, arith, inl, inr, ⊎_elim, get_or-drop, get_or-take, length-append, length-drop}
+use Rattle.std.specs.Int.{w16, w32, from_le_bytes}
 use Rattle.std.proofs.lemmas.Bool.{cases_eq}
 use Rattle.std.proofs.lemmas.Bool.Decides.{leb_tells}
 use Rattle.std.proofs.lemmas.List.{append-nil, drop_all, get_or-append-add, get_or_append_left, get_or_default, length-take, length-take-le}
 use Rattle.std.proofs.lemmas.List.Elements.{All-append, All-drop, All-take}
-use Rattle.page_core.specs.Memory.{bytes, put, number_of, bytes_of}
+use Rattle.page_core.specs.Memory.{bytes, put}
 use Rattle.page_core.specs.Pages.{Pages, IsPage}
 use Rattle.page_core.specs.Memories.{flat}
-use Rattle.page_core.proofs.Bytes.{put-outside, put-inside}
-
--- ---- numbers and their bytes
-pub bytes_of_8 : (v : ℕ) → v < 256 → v ∷ [] ≡ bytes_of 1 v
-unfolding bytes_of
-bytes_of_8 v small = let e : v ≡ v % 256 = omega arith in λ i. e i ∷ []
-
-pub bytes_of_16 : (v : ℕ) → to_le_bytes w16 v ≡ bytes_of 2 v
-unfolding bytes_of
-bytes_of_16 v = refl
-
-pub bytes_of_32 : (v : ℕ) → to_le_bytes w32 v ≡ bytes_of 4 v
-unfolding bytes_of
-bytes_of_32 v =
-    let third : v / 65536 ≡ v / 256 / 256 = omega arith in
-    let fourth : v / 16777216 ≡ v / 256 / 256 / 256 = omega arith in
-    λ i. v % 256 ∷ v / 256 % 256 ∷ third i % 256 ∷ fourth i % 256 ∷ []
-
-number_of_two : (b0 b1 w : ℕ) → w ≡ b0 + b1 * 256 → w ≡ number_of (b0 ∷ b1 ∷ [])
-unfolding number_of
-number_of_two b0 b1 w is = omega arith
-
-number_of_four : (b0 b1 b2 b3 w : ℕ) → w ≡ b0 + b1 * 256 + b2 * 65536 + b3 * 16777216 → w ≡ number_of (b0 ∷ b1 ∷ b2 ∷ b3 ∷ [])
-unfolding number_of
-number_of_four b0 b1 b2 b3 w is = omega arith
+use Rattle.page_core.proofs.Bytes.{two, four, put-outside, put-inside}
 
 -- ---- reading
 -- a byte of the page in which an address lies
@@ -45,30 +21,28 @@ byte_shown pages a k within =
 -- the bytes of the halfword at an even address
 two_shown : (pages : Pages) (a : ℕ) → a % 2 ≡ 0
     → bytes (flat pages) a 2 ≡ get_or (pages (a / 1024)) (a % 1024) 0 ∷ get_or (pages (a / 1024)) (a % 1024 + 1) 0 ∷ []
-unfolding bytes
-two_shown pages a aligned = let second = byte_shown pages a 1 (omega arith) in λ i. flat pages a ∷ second i ∷ []
+two_shown pages a aligned = let second = byte_shown pages a 1 (omega arith) in two (flat pages) a ∙ (λ i. flat pages a ∷ second i ∷ [])
 
 -- the bytes of the word at an address that is a multiple of 4
 four_shown : (pages : Pages) (a : ℕ) → a % 4 ≡ 0
     → bytes (flat pages) a 4 ≡ get_or (pages (a / 1024)) (a % 1024) 0 ∷ get_or (pages (a / 1024)) (a % 1024 + 1) 0 ∷ get_or (pages (a / 1024)) (a % 1024 + 2) 0 ∷ get_or (pages (a / 1024)) (a % 1024 + 3) 0 ∷ []
-unfolding bytes
 four_shown pages a aligned =
     let second = byte_shown pages a 1 (omega arith) in
-    let third : flat pages (a + 1 + 1) ≡ get_or (pages (a / 1024)) (a % 1024 + 2) 0 = ap (flat pages) (omega arith) ∙ byte_shown pages a 2 (omega arith) in
-    let fourth : flat pages (a + 1 + 1 + 1) ≡ get_or (pages (a / 1024)) (a % 1024 + 3) 0 = ap (flat pages) (omega arith) ∙ byte_shown pages a 3 (omega arith) in
-    λ i. flat pages a ∷ second i ∷ third i ∷ fourth i ∷ []
+    let third = byte_shown pages a 2 (omega arith) in
+    let fourth = byte_shown pages a 3 (omega arith) in
+    four (flat pages) a ∙ (λ i. flat pages a ∷ second i ∷ third i ∷ fourth i ∷ [])
 
 -- the halfword there
 pub half_shown : (pages : Pages) (a w : ℕ) → a % 2 ≡ 0
-    → w ≡ get_or (pages (a / 1024)) (a % 1024) 0 + get_or (pages (a / 1024)) (a % 1024 + 1) 0 * 256
-    → w ≡ number_of (bytes (flat pages) a 2)
-half_shown pages a w aligned is = number_of_two _ _ w is ∙ sym (ap number_of (two_shown pages a aligned))
+    → w ≡ from_le_bytes w16 (get_or (pages (a / 1024)) (a % 1024) 0 ∷ get_or (pages (a / 1024)) (a % 1024 + 1) 0 ∷ [])
+    → w ≡ from_le_bytes w16 (bytes (flat pages) a 2)
+half_shown pages a w aligned is = is ∙ ap (from_le_bytes w16) (sym (two_shown pages a aligned))
 
 -- the word there
 pub word_shown : (pages : Pages) (a w : ℕ) → a % 4 ≡ 0
-    → w ≡ get_or (pages (a / 1024)) (a % 1024) 0 + get_or (pages (a / 1024)) (a % 1024 + 1) 0 * 256 + get_or (pages (a / 1024)) (a % 1024 + 2) 0 * 65536 + get_or (pages (a / 1024)) (a % 1024 + 3) 0 * 16777216
-    → w ≡ number_of (bytes (flat pages) a 4)
-word_shown pages a w aligned is = number_of_four _ _ _ _ w is ∙ sym (ap number_of (four_shown pages a aligned))
+    → w ≡ from_le_bytes w32 (get_or (pages (a / 1024)) (a % 1024) 0 ∷ get_or (pages (a / 1024)) (a % 1024 + 1) 0 ∷ get_or (pages (a / 1024)) (a % 1024 + 2) 0 ∷ get_or (pages (a / 1024)) (a % 1024 + 3) 0 ∷ [])
+    → w ≡ from_le_bytes w32 (bytes (flat pages) a 4)
+word_shown pages a w aligned is = is ∙ ap (from_le_bytes w32) (sym (four_shown pages a aligned))
 
 -- ---- writing
 -- the bytes of a page in which others were put at a place

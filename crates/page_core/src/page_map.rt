@@ -1,5 +1,6 @@
-ghost use Rattle.std.specs.Prelude.{◌≡◌, ◌≢◌, ◌⊎◌, ◌||◌, is_some, ℕ, ◌+◌, ◌%◌, ◌/◌, ◌<◌, ◌≤◌, [], ◌++◌, length, take, drop, OnOk, OnErr, option_map};
-ghost use Rattle.page_core.specs.Memory.{bytes, put, number_of, bytes_of, contains, pages_of};
+ghost use Rattle.std.specs.Prelude.{◌≡◌, ◌≢◌, ◌⊎◌, ◌||◌, is_some, ℕ, ◌+◌, ◌%◌, ◌/◌, ◌<◌, ◌≤◌, [], ◌∷◌, ◌++◌, length, take, drop, OnOk, OnErr, option_map};
+ghost use Rattle.std.specs.Int.{w16, w32, to_le_bytes, from_le_bytes};
+ghost use Rattle.page_core.specs.Memory.{bytes, put, contains, pages_of};
 ghost use Rattle.page_core.specs.Stored.{IsStoredFrom, stored_at, first_from, stored_pages, memory_of, StoresAlso, StoresSome, IsAbsentAmong};
 
 use crate::Page;
@@ -82,7 +83,7 @@ impl PageMap {
     pub fn half(&self, address: u32) -> u16
         requires below { address < 268435456 }
         requires aligned { address % 2 ≡ 0 }
-        ensures { result ≡ number_of (bytes (memory_of self.now) address 2) }
+        ensures { result ≡ from_le_bytes w16 (bytes (memory_of self.now) address 2) }
     {
         let bytes = self.bytes_around(address);
         let at = (address % 1024) as usize;
@@ -93,7 +94,7 @@ impl PageMap {
     pub fn word(&self, address: u32) -> u32
         requires below { address < 268435456 }
         requires aligned { address % 4 ≡ 0 }
-        ensures { result ≡ number_of (bytes (memory_of self.now) address 4) }
+        ensures { result ≡ from_le_bytes w32 (bytes (memory_of self.now) address 4) }
     {
         let bytes = self.bytes_around(address);
         let at = (address % 1024) as usize;
@@ -116,7 +117,7 @@ impl PageMap {
     /// an AllocError is want of memory, and then nothing is changed.
     pub fn set_byte(&mut self, address: u32, value: u8) -> Result<(), AllocError>
         requires { address < 268435456 }
-        ensures written { OnOk result ((a : ℕ) → memory_of self.new a ≡ put (memory_of self.old) address (bytes_of 1 value) a) }
+        ensures written { OnOk result ((a : ℕ) → memory_of self.new a ≡ put (memory_of self.old) address (value ∷ []) a) }
         ensures stored { OnOk result (StoresAlso (address / 1024) self.old self.new) }
         ensures absent { OnErr result (stored_at self.old (address / 1024) ≡ None) }
         ensures kept { OnErr result (self.new ≡ self.old) }
@@ -129,7 +130,7 @@ impl PageMap {
     pub fn set_half(&mut self, address: u32, value: u16) -> Result<(), AllocError>
         requires below { address < 268435456 }
         requires aligned { address % 2 ≡ 0 }
-        ensures written { OnOk result ((a : ℕ) → memory_of self.new a ≡ put (memory_of self.old) address (bytes_of 2 value) a) }
+        ensures written { OnOk result ((a : ℕ) → memory_of self.new a ≡ put (memory_of self.old) address (to_le_bytes w16 value) a) }
         ensures stored { OnOk result (StoresAlso (address / 1024) self.old self.new) }
         ensures absent { OnErr result (stored_at self.old (address / 1024) ≡ None) }
         ensures kept { OnErr result (self.new ≡ self.old) }
@@ -142,7 +143,7 @@ impl PageMap {
     pub fn set_word(&mut self, address: u32, value: u32) -> Result<(), AllocError>
         requires below { address < 268435456 }
         requires aligned { address % 4 ≡ 0 }
-        ensures written { OnOk result ((a : ℕ) → memory_of self.new a ≡ put (memory_of self.old) address (bytes_of 4 value) a) }
+        ensures written { OnOk result ((a : ℕ) → memory_of self.new a ≡ put (memory_of self.old) address (to_le_bytes w32 value) a) }
         ensures stored { OnOk result (StoresAlso (address / 1024) self.old self.new) }
         ensures absent { OnErr result (stored_at self.old (address / 1024) ≡ None) }
         ensures kept { OnErr result (self.new ≡ self.old) }

@@ -1,7 +1,9 @@
 -- The memory with the registers, where the run of an image begins whose memory is zero from the register page on.
 use Rattle.std.proofs.Common.{◌≡◌, ⊎_elim, ℕ, zero, suc, ◌+◌, ◌-◌, ◌≤◌, Bool, true, false, cond, ◌&&◌, leb, ltb, List, length, get_or, replicate, refl, sym, ap, ◌∙◌}
+use Rattle.std.specs.Int.{w32, to_le_bytes}
+use Rattle.std.specs.List.{flat_map}
 use Rattle.std.proofs.lemmas.Bool.Decides.{leb_tells}
-use Rattle.page_core.specs.Memory.{top, put, bytes_of_words}
+use Rattle.page_core.specs.Memory.{top, put}
 use Rattle.page_core.specs.Memories.{page_of}
 use Rattle.page_core.specs.Images.{Image}
 use Rattle.page_core.proofs.Bytes.{page_same}
@@ -11,8 +13,7 @@ use Rattle.rv_step.specs.Machine.{full, full_of}
 use Rattle.rv_step.specs.Runs.{start}
 use Rattle.rv_step.proofs.Full.{full-below}
 
-no_bytes : (n k : ℕ) → get_or (bytes_of_words (replicate n 0)) k 0 ≡ 0
-unfolding bytes_of_words
+no_bytes : (n k : ℕ) → get_or (flat_map (to_le_bytes w32) (replicate n 0)) k 0 ≡ 0
 no_bytes zero k = refl
 no_bytes (suc n) zero = refl
 no_bytes (suc n) (suc zero) = refl
@@ -27,7 +28,7 @@ either false x y e = refl
 zeros_in : (m : ℕ → ℕ) (a : ℕ) → m a ≡ 0 → full_of m (replicate 32 0) a ≡ m a
 unfolding full_of put
 zeros_in m a e =
-    either (leb (top + 4) a && ltb a (top + 4 + length (bytes_of_words (replicate 31 0)))) (get_or (bytes_of_words (replicate 31 0)) (a - (top + 4)) 0) (m a)
+    either (leb (top + 4) a && ltb a (top + 4 + length (flat_map (to_le_bytes w32) (replicate 31 0)))) (get_or (flat_map (to_le_bytes w32) (replicate 31 0)) (a - (top + 4)) 0) (m a)
     (no_bytes 31 (a - (top + 4)) ∙ sym e)
 
 module _ (image : Image) (words : List ℕ) (rest : (a : ℕ) → top ≤ a → image.memory a ≡ 0) where

@@ -1,9 +1,9 @@
 -- What the front of some bytes says of a seal that they spell.
-use Rattle.std.proofs.Common.{◌≡◌, ℕ, ◌*◌, ◌%◌, ◌^◌, ◌<◌, List, [], ◌∷◌, ◌++◌, length, All, refl, sym, ap, ◌∙◌, append_assoc, length-append, arith}
+use Rattle.std.proofs.Common.{◌≡◌, ℕ, ◌%◌, ◌^◌, ◌<◌, List, ◌++◌, length, All, refl, sym, ap, ◌∙◌, append_assoc, length-append, arith}
 use Rattle.std.specs.Int.{w32, to_le_bytes, from_le_bytes}
 use Rattle.std.specs.List.{flat_map}
 use Rattle.std.proofs.lemmas.Nat.{from_le_bytes-to_le_bytes_4}
-use Rattle.std.proofs.lemmas.List.Concat.{flat_map-cons}
+use Rattle.page_core.proofs.Bytes.{length-words}
 use Rattle.part_tree.specs.Part.{Part}
 use Rattle.part_tree.specs.Canonical.{IsCanonical}
 use Rattle.part_tree.proofs.Strings.{halves}
@@ -23,12 +23,6 @@ pub one_number : (a b : ℕ) (x y : List ℕ) → a < 2 ^ 32 → b < 2 ^ 32 → 
 one_number a b x y p q same =
     let h = halves (to_le_bytes w32 a) x (to_le_bytes w32 b) y refl same in
     (sym (from_le_bytes-to_le_bytes_4 a p) ∙ ap (from_le_bytes w32) h.0 ∙ from_le_bytes-to_le_bytes_4 b q, h.1)
-
--- a word has 4 bytes
-pub length-words : (words : List ℕ) → length (flat_map (to_le_bytes w32) words) ≡ 4 * length words
-length-words [] = refl
-length-words (word ∷ words) =
-    ap length (flat_map-cons (to_le_bytes w32) word words) ∙ omega (arith, length-append (to_le_bytes w32 word) (flat_map (to_le_bytes w32) words), length-words words)
 
 -- the bytes end before the last word
 pub no_words : (count read : ℕ) (words bytes after : List ℕ) → read < count → length words ≡ read → bytes ≡ flat_map (to_le_bytes w32) words ++ after → length after < 4

@@ -1,5 +1,6 @@
 -- The act of every state is sound, by cases on the instruction.
 use Rattle.std.proofs.Common.{◌≡◌, ℕ, zero, suc, ◌+◌, ◌-◌, ◌*◌, ◌/◌, ◌%◌, ◌^◌, ◌<◌, ◌≤◌, Bool, ◌&&◌, leb, ltb, eqb, List, [], ◌∷◌, ◌++◌, length, get_or, refl, ap, arith, IsTrue, Option, Some, None, Result, length-append}
+use Rattle.std.specs.Int.{w32, byte_len, from_le_bytes}
 use Rattle.std.proofs.lemmas.Bool.{cond_both}
 use Rattle.std.proofs.lemmas.Bool.Decides.{nat_tests}
 use Rattle.rv_isa.specs.declared.instr.LoadOp.{LoadOp}
@@ -14,7 +15,7 @@ use Rattle.host_calls.specs.declared.call.Call.{Call}
 use Rattle.host_calls.specs.declared.call.Call.TheVariants.{Halt, Read, Commit, Assume}
 use Rattle.rv_isa.specs.Words.{plus}
 use Rattle.rv_isa.specs.Arithmetic.{taken_of}
-use Rattle.page_core.specs.Memory.{top, bytes, number_of, pages_from, pages_of}
+use Rattle.page_core.specs.Memory.{top, bytes, pages_from, pages_of}
 use Rattle.rv_isa.specs.Rows.{decode_of}
 use Rattle.host_calls.specs.Calls.{fits_below, within, checked, read_call_of, ranges_of, takes}
 use Rattle.rv_step.specs.declared.act.Act.TheVariants.{Sets, Loads, Stores, Does, Faults}
@@ -62,14 +63,14 @@ width_2 = record { few = omega arith; fits = λ a h l. grind (arith, nat_tests) 
 width_4 : IsWidth 4
 width_4 = record { few = omega arith; fits = λ a h l. grind (arith, nat_tests) }
 
-width_of_load : (op : LoadOp) → IsWidth (load_width op)
+width_of_load : (op : LoadOp) → IsWidth (byte_len (load_width op))
 width_of_load Lb = width_1
 width_of_load Lh = width_2
 width_of_load Lw = width_4
 width_of_load Lbu = width_1
 width_of_load Lhu = width_2
 
-width_of_store : (op : StoreOp) → IsWidth (store_width op)
+width_of_store : (op : StoreOp) → IsWidth (byte_len (store_width op))
 width_of_store Sb = width_1
 width_of_store Sh = width_2
 width_of_store Sw = width_4
@@ -95,9 +96,9 @@ module _ (x : List ℕ) where
       (λ e. cond_both (ltb a top) _ _ (IsSound x) (λ l. f (grind (arith, nat_tests)) (h.fits a (grind (arith, nat_tests)) (grind (arith, nat_tests)))) (λ l. sound_fault _))
       (λ e. sound_fault _)
 
-  sound_load : (op : LoadOp) (rd a : ℕ) → IsSound x (at_address (load_width op) a (Loads op rd a))
+  sound_load : (op : LoadOp) (rd a : ℕ) → IsSound x (at_address (byte_len (load_width op)) a (Loads op rd a))
   sound_load op rd a =
-      sound_at (load_width op) a (Loads op rd a) (width_of_load op)
+      sound_at (byte_len (load_width op)) a (Loads op rd a) (width_of_load op)
       (λ aligned fits. record {
         below = (fits, tt);
         aligned = aligned;
@@ -105,12 +106,12 @@ module _ (x : List ℕ) where
         exit = λ h. tt;
         limits = tt;
         cost = omega arith;
-        pages = one_range a (load_width op) (width_of_load op).few;
+        pages = one_range a (byte_len (load_width op)) (width_of_load op).few;
       })
 
-  sound_store : (op : StoreOp) (a v : ℕ) → IsSound x (at_address (store_width op) a (Stores op a v))
+  sound_store : (op : StoreOp) (a v : ℕ) → IsSound x (at_address (byte_len (store_width op)) a (Stores op a v))
   sound_store op a v =
-      sound_at (store_width op) a (Stores op a v) (width_of_store op)
+      sound_at (byte_len (store_width op)) a (Stores op a v) (width_of_store op)
       (λ aligned fits. record {
         below = (fits, tt);
         aligned = aligned;
@@ -118,7 +119,7 @@ module _ (x : List ℕ) where
         exit = λ h. tt;
         limits = tt;
         cost = omega arith;
-        pages = one_range a (store_width op) (width_of_store op).few;
+        pages = one_range a (byte_len (store_width op)) (width_of_store op).few;
       })
 
   -- ---- the host calls
@@ -222,4 +223,4 @@ pub acts_are_sound : ActsAreSound
 unfolding act act_of_word
 acts_are_sound s h =
     cond_both (leb top s.pc) _ _ (IsSound s.x) (λ e. sound_fault s.x _)
-    (λ e. sound_supplied (length s.words) s.x _ (sound_decoded (decode_of (number_of (bytes s.memory s.pc 4))) _ s.pc s.x h (grind (arith, nat_tests))))
+    (λ e. sound_supplied (length s.words) s.x _ (sound_decoded (decode_of (from_le_bytes w32 (bytes s.memory s.pc 4))) _ s.pc s.x h (grind (arith, nat_tests))))

@@ -1,11 +1,13 @@
 -- What each part of a step changes is what the act does.
 use Rattle.std.proofs.Common.{◌≡◌, ℕ, ◌+◌, List, [], ◌∷◌, ◌++◌, take, drop, drop-drop, refl, append-nil, add-zero, sym, ap, ap₂, ◌∙◌}
+use Rattle.std.specs.Int.{w32, byte_len, to_le_bytes, from_le_bytes}
+use Rattle.std.specs.List.{flat_map}
 use Rattle.rv_isa.specs.declared.instr.LoadOp.{LoadOp}
 use Rattle.rv_isa.specs.declared.instr.StoreOp.{StoreOp}
 use Rattle.rv_isa.specs.Registers.{with_register}
 use Rattle.host_calls.specs.declared.call.AssumeCall.{AssumeCall}
 use Rattle.host_calls.specs.declared.call.Call.TheVariants.{Halt, Read, Commit, Assume}
-use Rattle.page_core.specs.Memory.{bytes, put, number_of, bytes_of, bytes_of_words}
+use Rattle.page_core.specs.Memory.{bytes, put}
 use Rattle.rv_step.specs.declared.act.Act.TheVariants.{Loads, Stores}
 use Rattle.rv_step.specs.declared.place.Core.{Core}
 use Rattle.rv_step.specs.Machine.{State, Went, Halted, load_width, store_width, loaded, called, done}
@@ -18,21 +20,21 @@ abbrev pub next_core : Core → ℕ → ℕ → Core
 next_core core rd v = record { pc = core.pc + 4; regs = with_register core.regs rd v }
 
 pub loads_to : (op : LoadOp) (rd a v : ℕ) (core new : Core) (m : ℕ → ℕ) (tape : Tape) (log : Log)
-    → v ≡ loaded op (number_of (bytes m a (load_width op))) → new ≡ next_core core rd v
+    → v ≡ loaded op (from_le_bytes (load_width op) (bytes m a (byte_len (load_width op)))) → new ≡ next_core core rd v
     → done (Loads op rd a) (state_at core m tape log) ≡ Went (state_at new m tape log)
 unfolding done
 loads_to op rd a v core new m tape log value is =
     sym (ap (λ (c : Core). Went (state_at c m tape log)) (is ∙ ap (next_core core rd) value))
 
 pub stores_to : (op : StoreOp) (a v : ℕ) (core new : Core) (m n : ℕ → ℕ) (tape : Tape) (log : Log)
-    → n ≡ put m a (bytes_of (store_width op) v) → new ≡ next_core core 0 0
+    → n ≡ put m a (to_le_bytes (store_width op) v) → new ≡ next_core core 0 0
     → done (Stores op a v) (state_at core m tape log) ≡ Went (state_at new n tape log)
 unfolding done
 stores_to op a v core new m n tape log written is =
     sym (ap₂ (λ (c : Core) (k : ℕ → ℕ). Went (state_at c k tape log)) is written)
 
 pub reads_to : (pointer count : ℕ) (core new : Core) (m n : ℕ → ℕ) (tape after : Tape) (log : Log)
-    → n ≡ put m pointer (bytes_of_words (take count (drop tape.used tape.words))) → after ≡ record { words = tape.words; used = tape.used + count }
+    → n ≡ put m pointer (flat_map (to_le_bytes w32) (take count (drop tape.used tape.words))) → after ≡ record { words = tape.words; used = tape.used + count }
     → new ≡ next_core core 10 count
     → called (Read pointer count) (state_at core m tape log) ≡ Went (state_at new n after log)
 unfolding called
@@ -62,7 +64,7 @@ pub reads_none : (pointer count : ℕ) (core new : Core) (m : ℕ → ℕ) (tape
     → called (Read pointer count) (state_at core m tape log) ≡ Went (state_at new m tape log)
 reads_none pointer count core new m tape log none is =
     reads_to pointer count core new m m tape tape log
-    (none_put m pointer ∙ ap (λ (n : ℕ). put m pointer (bytes_of_words (take n (drop tape.used tape.words)))) (sym none))
+    (none_put m pointer ∙ ap (λ (n : ℕ). put m pointer (flat_map (to_le_bytes w32) (take n (drop tape.used tape.words)))) (sym none))
     (λ i. record { words = tape.words; used = (sym (add-zero tape.used) ∙ ap (λ (n : ℕ). tape.used + n) (sym none)) i })
     (is ∙ ap (next_core core 10) (sym none))
 

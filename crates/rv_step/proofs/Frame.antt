@@ -1,11 +1,13 @@
 -- The frame of a step: it reads what its footprint shows, and writes nothing else.
 use Rattle.std.proofs.Common.{◌≡◌, ℕ, zero, suc, ◌+◌, ◌-◌, ◌/◌, ◌%◌, ◌<◌, ◌≤◌, Bool, true, false, cond, ◌||◌, leb, eqb, List, [], ◌∷◌, ◌++◌, length, take, drop, refl, sym, ap, ap₂, ◌∙◌, subst, arith, IsTrue, inl, inr, ◌⊎◌, ⊎_elim, append_assoc, length-append}
+use Rattle.std.specs.Int.{w32, byte_len, to_le_bytes, from_le_bytes}
+use Rattle.std.specs.List.{flat_map}
 use Rattle.std.proofs.lemmas.List.{take-append-le, drop-append-le}
 use Rattle.std.proofs.lemmas.Bool.Decides.{nat_tests, leb_tells}
 use Rattle.rv_isa.specs.declared.fault.Fault.TheVariants.{InputEnd, BadAddress}
 use Rattle.host_calls.specs.declared.call.Call.{Call}
 use Rattle.host_calls.specs.declared.call.Call.TheVariants.{Halt, Read, Commit, Assume}
-use Rattle.page_core.specs.Memory.{top, bytes, put, number_of, bytes_of_words, contains, pages_from, pages_of, Within, Agree}
+use Rattle.page_core.specs.Memory.{top, bytes, put, contains, pages_from, pages_of, Within, Agree}
 use Rattle.host_calls.specs.Calls.{fits_below, ranges_of, takes}
 use Rattle.rv_step.specs.declared.act.Act.TheVariants.{Sets, Loads, Stores, Does, Faults}
 use Rattle.rv_step.specs.declared.act.Act.{Act}
@@ -76,7 +78,7 @@ module _ (pages : List ℕ) (more : Beside) (s t : State) (same : Alike pages mo
       ap (take count) same.words ∙ take-append-le count s.words more.words has in
       alike_after _ _ (length-with_register s.x 10 count) pc_next (x_with 10 count count refl)
       (ap (drop count) same.words ∙ drop-append-le count s.words more.words has) same.journal same.calls
-      (λ a e. put-same s.memory t.memory pointer (bytes_of_words (take count s.words)) a e ∙ ap (λ ws. put t.memory pointer (bytes_of_words ws) a) (sym words_same))
+      (λ a e. put-same s.memory t.memory pointer (flat_map (to_le_bytes w32) (take count s.words)) a e ∙ ap (λ ws. put t.memory pointer (flat_map (to_le_bytes w32) ws) a) (sym words_same))
   call_alike (Commit pointer count) ok shown has =
       let read : bytes s.memory pointer count ≡ bytes t.memory pointer count =
       range_same pointer count ok.0 (λ p h. shown p (contains-left (pages_of pointer count) [] p h)) in
@@ -102,10 +104,10 @@ module _ (pages : List ℕ) (more : Beside) (s t : State) (same : Alike pages mo
   done_alike (Sets pc rd v) ok shown has =
       alike_after _ _ (length-with_register s.x rd v) refl (x_with rd v v refl) same.words same.journal same.calls (λ a e. e)
   done_alike (Loads op rd a) ok shown has =
-      let read : bytes s.memory a (load_width op) ≡ bytes t.memory a (load_width op) =
-      range_same a (load_width op) ok.0 (λ p h. shown p (contains-left (pages_of a (load_width op)) [] p h)) in
+      let read : bytes s.memory a (byte_len (load_width op)) ≡ bytes t.memory a (byte_len (load_width op)) =
+      range_same a (byte_len (load_width op)) ok.0 (λ p h. shown p (contains-left (pages_of a (byte_len (load_width op))) [] p h)) in
       alike_after _ _ (length-with_register s.x rd _) pc_next
-      (x_with rd _ _ (ap (λ bs. loaded op (number_of bs)) read)) same.words same.journal same.calls (λ a e. e)
+      (x_with rd _ _ (ap (λ bs. loaded op (from_le_bytes (load_width op) bs)) read)) same.words same.journal same.calls (λ a e. e)
   done_alike (Stores op a v) ok shown has =
       alike_after _ _ refl pc_next same.x same.words same.journal same.calls (put-same s.memory t.memory a _)
   done_alike (Does call) ok shown has = call_alike call ok shown has
@@ -137,7 +139,7 @@ pub supplied_act : (s : State) → IsSupplied (length s.words) (act s)
 unfolding act
 supplied_act s = go (leb top s.pc)
   where
-    go : (b : Bool) → IsSupplied (length s.words) (cond b (Faults (BadAddress s.pc)) (supplied (length s.words) (act_of_word (number_of (bytes s.memory s.pc 4)) s.pc s.x)))
+    go : (b : Bool) → IsSupplied (length s.words) (cond b (Faults (BadAddress s.pc)) (supplied (length s.words) (act_of_word (from_le_bytes w32 (bytes s.memory s.pc 4)) s.pc s.x)))
     go true = tt
     go false = supplied_is (length s.words) _
 
@@ -159,7 +161,7 @@ unfolding act
 act_out s e = rw e refl
 
 pub act_in : (s : State) → leb top s.pc ≡ false
-    → act s ≡ supplied (length s.words) (act_of_word (number_of (bytes s.memory s.pc 4)) s.pc s.x)
+    → act s ≡ supplied (length s.words) (act_of_word (from_le_bytes w32 (bytes s.memory s.pc 4)) s.pc s.x)
 unfolding act
 act_in s e = rw e refl
 
@@ -181,12 +183,12 @@ module _ (pages : List ℕ) (more : Beside) (s t : State) (aligned : s.pc % 4 �
 
       within : leb top s.pc ≡ false → s.pc < top → act t ≡ act s
       within e h =
-          let decoded : act_of_word (number_of (bytes t.memory t.pc 4)) t.pc t.x ≡ act_of_word (number_of (bytes s.memory s.pc 4)) s.pc s.x =
-          ap₂ (λ p x. act_of_word (number_of (bytes t.memory p 4)) p x) same.pc same.x
-          ∙ ap (λ bs. act_of_word (number_of bs) s.pc s.x) (fetch_same h) in
+          let decoded : act_of_word (from_le_bytes w32 (bytes t.memory t.pc 4)) t.pc t.x ≡ act_of_word (from_le_bytes w32 (bytes s.memory s.pc 4)) s.pc s.x =
+          ap₂ (λ p x. act_of_word (from_le_bytes w32 (bytes t.memory p 4)) p x) same.pc same.x
+          ∙ ap (λ bs. act_of_word (from_le_bytes w32 bs) s.pc s.x) (fetch_same h) in
           act_in t (ap (leb top) same.pc ∙ e)
           ∙ ap (supplied (length t.words)) decoded
-          ∙ supplied_same (length s.words) (length t.words) (act_of_word (number_of (bytes s.memory s.pc 4)) s.pc s.x) (omega (arith, left))
+          ∙ supplied_same (length s.words) (length t.words) (act_of_word (from_le_bytes w32 (bytes s.memory s.pc 4)) s.pc s.x) (omega (arith, left))
           (λ f. left ∙ ap (λ ws. length s.words + length ws) (ends (act_in s e ∙ f)) ∙ (omega arith))
           ∙ sym (act_in s e)
 

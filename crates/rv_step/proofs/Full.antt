@@ -1,13 +1,15 @@
 -- Memories with the registers written into them.
 use Rattle.std.proofs.Common.{◌≡◌, ℕ, zero, suc, ◌+◌, ◌-◌, ◌/◌, ◌<◌, ◌≤◌, Bool, true, false, cond, ◌&&◌, leb, ltb, List, length, get_or, drop, refl, sym, ◌∙◌, arith, inl, length-drop, length-set}
-use Rattle.page_core.specs.Memory.{top, bytes, put, bytes_of_words, pages_of, Within, Agree}
+use Rattle.std.specs.Int.{w32, to_le_bytes}
+use Rattle.std.specs.List.{flat_map}
+use Rattle.page_core.specs.Memory.{top, bytes, put, pages_of, Within, Agree}
 use Rattle.rv_isa.specs.Registers.{with_register}
 use Rattle.rv_step.specs.Machine.{full_of}
-use Rattle.page_core.proofs.Bytes.{bytes-same, put-outside, in_pages_of, length-bytes_of_words}
+use Rattle.page_core.proofs.Bytes.{bytes-same, put-outside, in_pages_of, length-words}
 
 pub full-below : (m : ℕ → ℕ) (x : List ℕ) (k : ℕ) → k < top → full_of m x k ≡ m k
 unfolding full_of
-full-below m x k h = put-outside m (top + 4) (bytes_of_words (drop 1 x)) k (inl (omega arith))
+full-below m x k h = put-outside m (top + 4) (flat_map (to_le_bytes w32) (drop 1 x)) k (inl (omega arith))
 
 pub bytes-agree : (pages : List ℕ) (m n : ℕ → ℕ) (x y : List ℕ) → Agree pages (full_of m x) (full_of n y)
     → (a k : ℕ) → a + k ≤ top → Within (pages_of a k) pages → bytes m a k ≡ bytes n a k
@@ -28,12 +30,12 @@ pub agree-after : (pages : List ℕ) (m n p q : ℕ → ℕ) (x y : List ℕ) �
     → ((a : ℕ) → m a ≡ n a → p a ≡ q a) → Agree pages (full_of p y) (full_of q y)
 unfolding full_of put
 agree-after pages m n p q x y size same step =
-    let sizes : length (bytes_of_words (drop 1 y)) ≡ length (bytes_of_words (drop 1 x)) =
-    omega (arith, length-bytes_of_words (drop 1 y), length-bytes_of_words (drop 1 x), length-drop 1 y, length-drop 1 x) in
+    let sizes : length (flat_map (to_le_bytes w32) (drop 1 y)) ≡ length (flat_map (to_le_bytes w32) (drop 1 x)) =
+    omega (arith, length-words (drop 1 y), length-words (drop 1 x), length-drop 1 y, length-drop 1 x) in
     record {
       at = λ a shown.
           rw sizes
-          (either_way (leb (top + 4) a && ltb a (top + 4 + length (bytes_of_words (drop 1 x))))
-          (get_or (bytes_of_words (drop 1 x)) (a - (top + 4)) 0)
-          (get_or (bytes_of_words (drop 1 y)) (a - (top + 4)) 0) (m a) (n a) (p a) (q a) (same.at a shown) (step a));
+          (either_way (leb (top + 4) a && ltb a (top + 4 + length (flat_map (to_le_bytes w32) (drop 1 x))))
+          (get_or (flat_map (to_le_bytes w32) (drop 1 x)) (a - (top + 4)) 0)
+          (get_or (flat_map (to_le_bytes w32) (drop 1 y)) (a - (top + 4)) 0) (m a) (n a) (p a) (q a) (same.at a shown) (step a));
     }

@@ -1,11 +1,13 @@
 -- What a step leaves, by cases on its act.
 use Rattle.std.proofs.Common.{◌≡◌, ℕ, zero, suc, ◌+◌, ◌-◌, ◌*◌, ◌/◌, ◌%◌, ◌^◌, ◌<◌, ◌≤◌, Bool, true, false, List, [], ◌∷◌, ◌++◌, length, get_or, take, set, refl, ◌∙◌, subst, arith, IsTrue, IsFalse, inl, inr, ◌⊎◌, ⊎_elim, sym, length-take}
+use Rattle.std.specs.Int.{w32, byte_len, to_le_bytes}
+use Rattle.std.specs.List.{flat_map}
 use Rattle.std.proofs.lemmas.Bool.Decides.{leb_tells}
 use Rattle.std.proofs.lemmas.List.Elements.{All-append}
 use Rattle.rv_isa.specs.declared.fault.Fault.TheVariants.{BadAddress}
 use Rattle.host_calls.specs.declared.call.Call.{Call}
 use Rattle.host_calls.specs.declared.call.Call.TheVariants.{Halt, Read, Commit, Assume}
-use Rattle.page_core.specs.Memory.{top, bytes, put, bytes_of, bytes_of_words, contains, pages_of, Within}
+use Rattle.page_core.specs.Memory.{top, bytes, put, contains, pages_of, Within}
 use Rattle.host_calls.specs.Calls.{ranges_of}
 use Rattle.rv_step.specs.declared.act.Act.TheVariants.{Sets, Loads, Stores, Does, Faults}
 use Rattle.rv_step.specs.declared.act.Act.{Act}
@@ -13,13 +15,13 @@ use Rattle.rv_step.specs.Machine.{State, Event, Went, Halted, Faulted, store_wid
 use Rattle.rv_isa.specs.Registers.{with_register, AreRegisters}
 use Rattle.rv_step.specs.Laws.{IsReady}
 use Rattle.rv_step.specs.Acts.{IsSound, IsMade, Keeps, StepKeeps, StepHaltsWithWord}
-use Rattle.page_core.proofs.Bytes.{put-outside, in_pages_of, length-bytes_of_words}
+use Rattle.page_core.proofs.Bytes.{put-outside, in_pages_of, length-words, length-to_le_bytes, to_le_bytes-small, words-small}
 use Rattle.page_core.proofs.Listed.{contains-left}
 use Rattle.rv_step.proofs.Full.{length-with_register}
 use Rattle.rv_step.proofs.Feet.{data_within}
 use Rattle.rv_step.proofs.Acts.{acts_are_sound}
 use Rattle.rv_step.proofs.Frame.{act_out}
-use Rattle.rv_step.proofs.Made.{AreCalls-append, bytes_are, digest_read, put_small, length-bytes_of, bytes_of-small, bytes_of_words-small}
+use Rattle.rv_step.proofs.Made.{AreCalls-append, bytes_are, digest_read, put_small}
 
 pub both : (b : Bool) → b ≡ true → b ≡ false → ⊥
 both b e f = cc
@@ -87,10 +89,10 @@ module _ (s : State) (below : s.pc < top) where
   called_leaves (Halt code) sound shown = λ h. (sound h.aligned).exit (h.registers.are_words 10)
   called_leaves (Read pointer count) sound shown =
       keeps_next _ 10 count refl refl
-      (λ k h. put_out s.memory pointer (4 * count) (bytes_of_words (take count s.words)) (foot_of s) k
-      (omega (arith, length-bytes_of_words (take count s.words), length-take count s.words)) shown h)
+      (λ k h. put_out s.memory pointer (4 * count) (flat_map (to_le_bytes w32) (take count s.words)) (foot_of s) k
+      (omega (arith, length-words (take count s.words), length-take count s.words)) shown h)
       (λ h. record {
-        memory = λ k. put_small s.memory pointer (bytes_of_words (take count s.words)) k (h.memory k) (bytes_of_words-small (take count s.words) (k - pointer));
+        memory = λ k. put_small s.memory pointer (flat_map (to_le_bytes w32) (take count s.words)) k (h.memory k) (words-small (take count s.words));
         journal = h.journal;
         calls = h.calls;
       })
@@ -123,9 +125,9 @@ module _ (s : State) (below : s.pc < top) where
   done_leaves (Loads op rd a) sound shown = keeps_next s rd _ refl refl (λ k h. refl) (λ h. h)
   done_leaves (Stores op a v) sound shown =
       keeps_next _ 0 0 refl refl
-      (λ k h. put_out s.memory a (store_width op) (bytes_of (store_width op) v) (foot_of s) k (omega (arith, length-bytes_of (store_width op) v)) shown h)
+      (λ k h. put_out s.memory a (byte_len (store_width op)) (to_le_bytes (store_width op) v) (foot_of s) k (omega (arith, length-to_le_bytes (store_width op) v)) shown h)
       (λ h. record {
-        memory = λ k. put_small s.memory a (bytes_of (store_width op) v) k (h.memory k) (bytes_of-small (store_width op) v (k - a));
+        memory = λ k. put_small s.memory a (to_le_bytes (store_width op) v) k (h.memory k) (to_le_bytes-small (store_width op) v);
         journal = h.journal;
         calls = h.calls;
       })

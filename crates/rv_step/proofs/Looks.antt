@@ -1,12 +1,13 @@
 -- What looking at a step tells: its footprint, its cost and its fault.
 use Rattle.std.proofs.Common.{◌≡◌, ◌≢◌, ℕ, zero, suc, ◌+◌, ◌-◌, ◌/◌, ◌%◌, ◌<◌, ◌≤◌, Bool, true, false, cond, leb, eqb, List, [], ◌∷◌, ◌++◌, length, refl, sym, ap, ap₂, ◌∙◌, subst, arith, append-nil, IsTrue, Option, Some, None, Result, Ok, Err}
+use Rattle.std.specs.Int.{w32, from_le_bytes}
 use Rattle.std.proofs.lemmas.Bool.Decides.{nat_tests}
 use Rattle.rv_isa.specs.declared.fault.Fault.TheVariants.{BadAddress}
 use Rattle.host_calls.specs.declared.call.Call.{Call}
 use Rattle.host_calls.specs.declared.call.Call.TheVariants.{Halt, Read, Commit, Assume}
 use Rattle.host_calls.specs.Calls.{fits_below}
 use Rattle.host_calls.specs.Foots.{with_data, with_pages}
-use Rattle.page_core.specs.Memory.{top, bytes, number_of, pages_from, pages_of, place, ascending, without}
+use Rattle.page_core.specs.Memory.{top, bytes, pages_from, pages_of, place, ascending, without}
 use Rattle.rv_step.specs.declared.act.Act.{Act}
 use Rattle.rv_step.specs.declared.act.Act.TheVariants.{Sets, Loads, Stores, Does, Faults}
 use Rattle.rv_step.specs.Machine.{State, act_of_word, supplied, act, done, called, data_of, pages_of_all, foot_at, foot_of, step_of, step_cost, cost_of_act, first_closed}
@@ -113,7 +114,7 @@ fetched_out opens s h l = ap Ok (sym (out s l)) ∙ ap (λ o. unless_closed o (a
 
 -- a fetch in range of open pages
 pub fetched_in : (opens : ℕ → Bool) (s : State) (w : ℕ) (a b : Act) → opens 262143 ≡ true → s.pc < top → opens (s.pc / 1024) ≡ true
-    → w ≡ number_of (bytes s.memory s.pc 4) → a ≡ act_of_word w s.pc s.x → b ≡ supplied (length s.words) a → Ok b ≡ fetched opens s
+    → w ≡ from_le_bytes w32 (bytes s.memory s.pc 4) → a ≡ act_of_word w s.pc s.x → b ≡ supplied (length s.words) a → Ok b ≡ fetched opens s
 fetched_in opens s w a b h l k word decoded given =
     let same : b ≡ act s =
     given ∙ ap (supplied (length s.words)) (decoded ∙ ap (λ n. act_of_word n s.pc s.x) word) ∙ sym (act_in s (grind (arith, nat_tests))) in

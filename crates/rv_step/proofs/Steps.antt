@@ -1,5 +1,6 @@
 -- The act that is next, and what doing it answers.
 use Rattle.std.proofs.Common.{◌≡◌, ℕ, zero, suc, ◌+◌, ◌/◌, ◌%◌, ◌<◌, ◌≤◌, Bool, true, false, not, cond, leb, eqb, List, [], ◌∷◌, length, get_or, take, refl, sym, ap, ◌∙◌, subst, arith, add-zero, IsTrue, Option, Some, None, Result, Ok, Err, ⊎_elim}
+use Rattle.std.specs.Int.{byte_len}
 use Rattle.std.proofs.lemmas.Bool.Decides.{nat_tests, leb_tells}
 use Rattle.rv_isa.specs.declared.instr.LoadOp.{LoadOp}
 use Rattle.rv_isa.specs.declared.instr.LoadOp.TheVariants.{Lb, Lh, Lw, Lbu, Lhu}
@@ -191,14 +192,14 @@ paid_stop opens room s t S.Memory fits h = h
 pub open_start : (opens : ℕ → Bool) (a n : ℕ) → 0 < n → Opens opens a n → IsTrue (opens (a / 1024))
 open_start opens a n some each = subst (λ (k : ℕ). IsTrue (opens (k / 1024))) (add-zero a) (each 0 some)
 
-pub load_some : (op : LoadOp) → 0 < load_width op
+pub load_some : (op : LoadOp) → 0 < byte_len (load_width op)
 load_some Lb = omega arith
 load_some Lh = omega arith
 load_some Lw = omega arith
 load_some Lbu = omega arith
 load_some Lhu = omega arith
 
-pub store_some : (op : StoreOp) → 0 < store_width op
+pub store_some : (op : StoreOp) → 0 < byte_len (store_width op)
 store_some Sb = omega arith
 store_some Sh = omega arith
 store_some Sw = omega arith

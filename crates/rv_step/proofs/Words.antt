@@ -1,51 +1,13 @@
 -- Bytes, halfwords and words of a memory.
 use Rattle.std.proofs.Common.{◌≡◌, ℕ, zero, suc, ◌+◌, ◌-◌, ◌*◌, ◌/◌, ◌%◌, ◌<◌, ◌≤◌, List, [], ◌∷◌, ◌++◌, length, get_or, take, set, refl, sym, ap, ap₂, ◌∙◌, arith, inl, inr, ◌⊎◌, ⊎_elim, length-append, length-set, get_or-set_same, get_or-set_other}
-use Rattle.std.specs.Prelude.{All}
+use Rattle.std.specs.List.{flat_map}
 use Rattle.std.specs.Int.{w16, w32, to_le_bytes, from_le_bytes}
-use Rattle.std.proofs.lemmas.Nat.{le_bytes_4}
 use Rattle.std.proofs.lemmas.Bool.Decides.{leb_tells}
-use Rattle.std.proofs.lemmas.List.{get_or-append-add, length-take-le}
+use Rattle.std.proofs.lemmas.List.{flat_map_more, get_or-append-add, length-take-le}
 use Rattle.std.proofs.Math.ListN.{get_or-append}
 use Rattle.std.proofs.Math.Seq.{take-suc, take-suc-set}
-use Rattle.page_core.specs.Memory.{bytes, put, number_of, bytes_of, bytes_of_words}
-use Rattle.page_core.proofs.Bytes.{length-bytes, length-bytes_of_words, get_or-bytes, put-outside, put-inside}
-
-pub one : (m : ℕ → ℕ) (a : ℕ) → number_of (bytes m a 1) ≡ m a
-unfolding bytes number_of
-one m a = omega arith
-
-pub two : (m : ℕ → ℕ) (a : ℕ) → bytes m a 2 ≡ m a ∷ m (a + 1) ∷ []
-unfolding bytes
-two m a = refl
-
-pub four : (m : ℕ → ℕ) (a : ℕ) → bytes m a 4 ≡ m a ∷ m (a + 1) ∷ m (a + 2) ∷ m (a + 3) ∷ []
-unfolding bytes
-four m a =
-    let k : a + 1 + 1 ≡ a + 2 = omega arith in
-    let l : a + 1 + 1 + 1 ≡ a + 3 = omega arith in
-    ap₂ (λ i j. m a ∷ m (a + 1) ∷ m i ∷ m j ∷ []) k l
-
-read_four : (b0 b1 b2 b3 : ℕ) → from_le_bytes w32 (b0 ∷ b1 ∷ b2 ∷ b3 ∷ []) ≡ number_of (b0 ∷ b1 ∷ b2 ∷ b3 ∷ [])
-unfolding number_of
-read_four b0 b1 b2 b3 = omega arith
-
-read_two : (b0 b1 : ℕ) → from_le_bytes w16 (b0 ∷ b1 ∷ []) ≡ number_of (b0 ∷ b1 ∷ [])
-unfolding number_of
-read_two b0 b1 = omega arith
-
-pub small_in : (bs : List ℕ) → All (λ b. b < 256) bs → (i : ℕ) → get_or bs i 0 < 256
-small_in bs all i = ⊎_elim (λ t. omega (arith, past bs i t.1)) (λ t. all i 0 t.1) (leb_tells (length bs) i)
-  where
-    past : (bs : List ℕ) (i : ℕ) → length bs ≤ i → get_or bs i 0 ≡ 0
-    past [] i h = refl
-    past (b ∷ bs) zero h = absurd (omega arith)
-    past (b ∷ bs) (suc i) h = past bs i (omega arith)
-
--- the bytes of a word that was read
-pub word_back : (m : ℕ → ℕ) (a w : ℕ) → All (λ b. b < 256) (bytes m a 4) → w ≡ number_of (bytes m a 4) → to_le_bytes w32 w ≡ bytes m a 4
-word_back m a w small is =
-    le_bytes_4 (bytes m a 4) w (length-bytes m a 4) (small_in (bytes m a 4) small)
-    (is ∙ ap number_of (four m a) ∙ sym (read_four (m a) (m (a + 1)) (m (a + 2)) (m (a + 3))) ∙ ap (from_le_bytes w32) (sym (four m a)))
+use Rattle.page_core.specs.Memory.{bytes, put}
+use Rattle.page_core.proofs.Bytes.{two, length-bytes, length-words, get_or-bytes, put-outside, put-inside}
 
 -- a byte of the word in which it lies
 pub byte_in : (m : ℕ → ℕ) (a : ℕ) → get_or (bytes m (a / 4 * 4) 4) (a % 4) 0 ≡ m a
@@ -55,11 +17,10 @@ next_in : (m : ℕ → ℕ) (a : ℕ) → a % 2 ≡ 0 → get_or (bytes m (a / 4
 next_in m a even = get_or-bytes m (a / 4 * 4) 4 (a % 4 + 1) (omega arith) ∙ ap m (omega arith)
 
 pub half_in : (m : ℕ → ℕ) (a : ℕ) (bs : List ℕ) → a % 2 ≡ 0 → bs ≡ bytes m (a / 4 * 4) 4
-    → from_le_bytes w16 (get_or bs (a % 4) 0 ∷ get_or bs (a % 4 + 1) 0 ∷ []) ≡ number_of (bytes m a 2)
+    → from_le_bytes w16 (get_or bs (a % 4) 0 ∷ get_or bs (a % 4 + 1) 0 ∷ []) ≡ from_le_bytes w16 (bytes m a 2)
 half_in m a bs even is =
     ap₂ (λ i j. from_le_bytes w16 (i ∷ j ∷ [])) (ap (λ xs. get_or xs (a % 4) 0) is ∙ byte_in m a) (ap (λ xs. get_or xs (a % 4 + 1) 0) is ∙ next_in m a even)
-    ∙ read_two (m a) (m (a + 1))
-    ∙ ap number_of (sym (two m a))
+    ∙ ap (from_le_bytes w16) (sym (two m a))
 
 -- ---- writing a part of a word
 -- bytes that differ from the memory's in a part alone are written as that part
@@ -160,32 +121,9 @@ half_patched m a v w even =
         ∙ get_or-set_other old r j v 0 (⊎_elim (λ t. omega (arith, t)) (λ t. omega (arith, t)) away)
         ∙ get_or-bytes m b 4 j (omega (arith, h, sizes))
 
--- the bytes of the word that four bytes are
-explicit : (b0 b1 b2 b3 : ℕ) → b0 < 256 → b1 < 256 → b2 < 256 → b3 < 256 → bytes_of 4 (from_le_bytes w32 (b0 ∷ b1 ∷ b2 ∷ b3 ∷ [])) ≡ b0 ∷ b1 ∷ b2 ∷ b3 ∷ []
-unfolding bytes_of
-explicit b0 b1 b2 b3 h0 h1 h2 h3 =
-    let w : ℕ = from_le_bytes w32 (b0 ∷ b1 ∷ b2 ∷ b3 ∷ []) in
-    let e0 : w % 256 ≡ b0 = omega arith in
-    let e1 : w / 256 % 256 ≡ b1 = omega arith in
-    let e2 : w / 256 / 256 % 256 ≡ b2 = omega arith in
-    let e3 : w / 256 / 256 / 256 % 256 ≡ b3 = omega arith in
-    λ i. e0 i ∷ e1 i ∷ e2 i ∷ e3 i ∷ []
-
-pub word_of : (bs : List ℕ) (w : ℕ) → length bs ≡ 4 → ((i : ℕ) → get_or bs i 0 < 256) → w ≡ from_le_bytes w32 bs → bytes_of 4 w ≡ bs
-word_of [] w size small is = absurd (omega (arith, size))
-word_of (b0 ∷ []) w size small is = absurd (omega (arith, size))
-word_of (b0 ∷ b1 ∷ []) w size small is = absurd (omega (arith, size))
-word_of (b0 ∷ b1 ∷ b2 ∷ []) w size small is = absurd (omega (arith, size))
-word_of (b0 ∷ b1 ∷ b2 ∷ b3 ∷ []) w size small is = ap (bytes_of 4) is ∙ explicit b0 b1 b2 b3 (small 0) (small 1) (small 2) (small 3)
-word_of (b0 ∷ b1 ∷ b2 ∷ b3 ∷ b4 ∷ bs) w size small is = absurd (omega (arith, size))
-
-pub one_byte : (v : ℕ) → bytes_of 1 v ≡ v % 256 ∷ []
-unfolding bytes_of
-one_byte v = refl
-
-pub two_bytes : (v : ℕ) → bytes_of 2 (v % 65536) ≡ bytes_of 2 v
-unfolding bytes_of
-two_bytes v = let e : v % 65536 % 256 ≡ v % 256 = omega arith in let f : v % 65536 / 256 % 256 ≡ v / 256 % 256 = omega arith in λ i. e i ∷ f i ∷ []
+-- the two lowest bytes of a word
+pub two_lowest : (v : ℕ) → to_le_bytes w16 (v % 65536) ≡ to_le_bytes w16 v
+two_lowest v = let e : v % 65536 % 256 ≡ v % 256 = omega arith in let f : v % 65536 / 256 % 256 ≡ v / 256 % 256 = omega arith in λ i. e i ∷ f i ∷ []
 
 -- ---- ranges
 pub bytes_on : (m : ℕ → ℕ) (a k : ℕ) → bytes m a (suc k) ≡ bytes m a k ++ m (a + k) ∷ []
@@ -218,26 +156,14 @@ put_twice_at m a xs ys k =
 pub put_twice : (m : ℕ → ℕ) (a : ℕ) (xs ys : List ℕ) → put (put m a xs) (a + length xs) ys ≡ put m a (xs ++ ys)
 put_twice m a xs ys = λ i k. put_twice_at m a xs ys k i
 
-words_on : (ws : List ℕ) (w : ℕ) → bytes_of_words (ws ++ w ∷ []) ≡ bytes_of_words ws ++ bytes_of 4 w
-unfolding bytes_of_words bytes_of
-words_on [] w =
-    let e : w / 65536 ≡ w / 256 / 256 = omega arith in
-    let f : w / 16777216 ≡ w / 256 / 256 / 256 = omega arith in
-    λ i. w % 256 ∷ w / 256 % 256 ∷ e i % 256 ∷ f i % 256 ∷ []
-words_on (v ∷ ws) w = ap (λ bs. v % 256 ∷ v / 256 % 256 ∷ v / 65536 % 256 ∷ v / 16777216 % 256 ∷ bs) (words_on ws w)
-
 -- one more word after k
 pub word_put : (m n p : ℕ → ℕ) (a at k w : ℕ) (ws : List ℕ) → k < length ws → at ≡ a + 4 * k → w ≡ get_or ws k 0
-    → n ≡ put m a (bytes_of_words (take k ws)) → p ≡ put n at (bytes_of 4 w) → p ≡ put m a (bytes_of_words (take (suc k) ws))
+    → n ≡ put m a (flat_map (to_le_bytes w32) (take k ws)) → p ≡ put n at (to_le_bytes w32 w) → p ≡ put m a (flat_map (to_le_bytes w32) (take (suc k) ws))
 word_put m n p a at k w ws within there is before after =
-    let size : length (bytes_of_words (take k ws)) ≡ 4 * k = length-bytes_of_words (take k ws) ∙ ap (λ (j : ℕ). 4 * j) (length-take-le k ws (omega arith)) in
-    after ∙ ap₂ (λ (q : ℕ → ℕ) (b : ℕ). put q b (bytes_of 4 w)) before (there ∙ ap (λ (j : ℕ). a + j) (sym size))
-    ∙ put_twice m a (bytes_of_words (take k ws)) (bytes_of 4 w)
-    ∙ ap (put m a) (sym (words_on (take k ws) w) ∙ ap (λ (v : ℕ). bytes_of_words (take k ws ++ v ∷ [])) is ∙ ap bytes_of_words (sym (take-suc ws k 0 within)))
-
-pub half_bytes : (v : ℕ) (bs : List ℕ) → bs ≡ v % 256 ∷ v / 256 % 256 ∷ [] → get_or bs 0 0 ∷ get_or bs 1 0 ∷ [] ≡ bytes_of 2 v
-unfolding bytes_of
-half_bytes v bs is = ap (λ (xs : List ℕ). get_or xs 0 0 ∷ get_or xs 1 0 ∷ []) is
+    let size : length (flat_map (to_le_bytes w32) (take k ws)) ≡ 4 * k = length-words (take k ws) ∙ ap (λ (j : ℕ). 4 * j) (length-take-le k ws (omega arith)) in
+    after ∙ ap₂ (λ (q : ℕ → ℕ) (b : ℕ). put q b (to_le_bytes w32 w)) before (there ∙ ap (λ (j : ℕ). a + j) (sym size))
+    ∙ put_twice m a (flat_map (to_le_bytes w32) (take k ws)) (to_le_bytes w32 w)
+    ∙ ap (put m a) (flat_map_more (to_le_bytes w32) [] (take k ws) w ∙ ap (λ (v : ℕ). flat_map (to_le_bytes w32) (take k ws ++ v ∷ [])) is ∙ ap (flat_map (to_le_bytes w32)) (sym (take-suc ws k 0 within)))
 
 -- one more byte after k
 pub byte_read : (m : ℕ → ℕ) (a at k b n : ℕ) (buffer : List ℕ) → k < n → length buffer ≡ n → at ≡ a + k → b ≡ m at → take k buffer ≡ bytes m a k
@@ -251,8 +177,7 @@ byte_read m a at k b n buffer within size there is before =
           ∙ sym (bytes_on m a k) ∙ ap (bytes m a) (sym next),
     )
 
-pub none_put : (m : ℕ → ℕ) (a : ℕ) → m ≡ put m a (bytes_of_words [])
-unfolding bytes_of_words
+pub none_put : (m : ℕ → ℕ) (a : ℕ) → m ≡ put m a (flat_map (to_le_bytes w32) [])
 none_put m a = λ i k. sym (put-outside m a [] k (away k)) i
   where
     away : (k : ℕ) → (k < a) ⊎ (a + length {A = ℕ} [] ≤ k)

@@ -1,5 +1,6 @@
 -- What holds of every act, and what a step keeps.
 use Rattle.std.specs.Prelude.{◌≡◌, ℕ, ◌/◌, ◌%◌, ◌^◌, ◌<◌, ◌≤◌, List, [], ◌∷◌, length, IsTrue, IsFalse}
+use Rattle.std.specs.Int.{byte_len}
 use Rattle.digest_core.specs.Digests.{IsBytes, IsDigest}
 use Rattle.rv_isa.specs.Registers.{register}
 use Rattle.page_core.specs.Memory.{contains}
@@ -35,8 +36,8 @@ KeepsLimits a = Unit {0}
 
 -- words are read and written at multiples of 4, halfwords at even addresses
 abbrev pub IsAligned : Act → Type 0
-IsAligned (Loads op rd a) = a % load_width op ≡ 0
-IsAligned (Stores op a v) = a % store_width op ≡ 0
+IsAligned (Loads op rd a) = a % byte_len (load_width op) ≡ 0
+IsAligned (Stores op a v) = a % byte_len (store_width op) ≡ 0
 IsAligned (Does (Read pointer count)) = pointer % 4 ≡ 0
 IsAligned (Does (Assume image journal)) = (image % 4 ≡ 0) × (journal % 4 ≡ 0)
 IsAligned a = Unit {0}

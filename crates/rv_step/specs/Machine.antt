@@ -1,5 +1,7 @@
 -- One step of the machine.
 use Rattle.std.specs.Prelude.{ℕ, ◌+◌, ◌-◌, ◌*◌, ◌/◌, ◌%◌, ◌^◌, cond, leb, ltb, eqb, List, [], ◌∷◌, ◌++◌, length, take, drop, Bool, not, find, Option, Some, None, Result, Ok, Err}
+use Rattle.std.specs.Int.{Width, w8, w16, w32, byte_len, to_le_bytes, from_le_bytes}
+use Rattle.std.specs.List.{flat_map}
 use Rattle.rv_isa.specs.declared.instr.LoadOp.{LoadOp}
 use Rattle.rv_isa.specs.declared.instr.LoadOp.TheVariants.{Lb, Lh, Lw, Lbu, Lhu}
 use Rattle.rv_isa.specs.declared.instr.StoreOp.{StoreOp}
@@ -16,7 +18,7 @@ use Rattle.rv_isa.specs.Words.{unsigned, plus}
 use Rattle.rv_isa.specs.Registers.{register, with_register}
 use Rattle.host_calls.specs.declared.call.AssumeCall.{AssumeCall}
 use Rattle.rv_isa.specs.Arithmetic.{alu_of, taken_of}
-use Rattle.page_core.specs.Memory.{top, bytes, put, number_of, bytes_of, bytes_of_words, pages_of, ascending, without}
+use Rattle.page_core.specs.Memory.{top, bytes, put, pages_of, ascending, without}
 use Rattle.rv_isa.specs.Rows.{decode_of}
 use Rattle.host_calls.specs.Calls.{read_call_of, ranges_of, takes, cost_of}
 
@@ -36,17 +38,18 @@ pub data Event : Type 0 where
   Faulted : Fault → Event
 
 -- ---- what an instruction does, by the pc and the registers alone: an `Act`
-abbrev pub load_width : LoadOp → ℕ
-load_width Lb = 1
-load_width Lh = 2
-load_width Lw = 4
-load_width Lbu = 1
-load_width Lhu = 2
+-- how wide what a load reads is, and what a store writes
+abbrev pub load_width : LoadOp → Width
+load_width Lb = w8
+load_width Lh = w16
+load_width Lw = w32
+load_width Lbu = w8
+load_width Lhu = w16
 
-abbrev pub store_width : StoreOp → ℕ
-store_width Sb = 1
-store_width Sh = 2
-store_width Sw = 4
+abbrev pub store_width : StoreOp → Width
+store_width Sb = w8
+store_width Sh = w16
+store_width Sw = w32
 
 -- the act, at an address that is aligned and below the register page
 abbrev pub at_address : ℕ → ℕ → Act → Act
@@ -67,9 +70,9 @@ act_of (Jalr rd rs1 imm) pc x = jump (plus (register x rs1) imm / 2 * 2) rd (pc 
 act_of (Branch op rs1 rs2 offset) pc x =
     cond (taken_of op (register x rs1) (register x rs2)) (jump (plus pc offset) 0 0) (Sets (pc + 4) 0 0)
 act_of (Load op rd rs1 imm) pc x =
-    let a = plus (register x rs1) imm in at_address (load_width op) a (Loads op rd a)
+    let a = plus (register x rs1) imm in at_address (byte_len (load_width op)) a (Loads op rd a)
 act_of (Store op rs1 rs2 imm) pc x =
-    let a = plus (register x rs1) imm in at_address (store_width op) a (Stores op a (register x rs2))
+    let a = plus (register x rs1) imm in at_address (byte_len (store_width op)) a (Stores op a (register x rs2))
 act_of (AluImm op rd rs1 imm) pc x = Sets (pc + 4) rd (alu_of op (register x rs1) (unsigned imm))
 act_of (Alu op rd rs1 rs2) pc x = Sets (pc + 4) rd (alu_of op (register x rs1) (register x rs2))
 act_of Fence pc x = Sets (pc + 4) 0 0
@@ -89,7 +92,7 @@ supplied left act = act
 unfoldable pub act : State → Act
 act s =
     cond (leb top s.pc) (Faults (BadAddress s.pc))
-    (supplied (length s.words) (act_of_word (number_of (bytes s.memory s.pc 4)) s.pc s.x))
+    (supplied (length s.words) (act_of_word (from_le_bytes w32 (bytes s.memory s.pc 4)) s.pc s.x))
 
 -- ---- doing it
 -- a number of k bits as a word, its sign extended; half is 2 ^ (k - 1)
@@ -110,15 +113,16 @@ next s rd v = record s { pc = s.pc + 4; x = with_register s.x rd v }
 unfoldable pub called : Call → State → Event
 called (Halt code) s = Halted code
 called (Read pointer count) s =
-    Went (next (record s { memory = put s.memory pointer (bytes_of_words (take count s.words)); words = drop count s.words }) 10 count)
+    Went (next (record s { memory = put s.memory pointer (flat_map (to_le_bytes w32) (take count s.words)); words = drop count s.words }) 10 count)
 called (Commit pointer count) s = Went (next (record s { journal = s.journal ++ bytes s.memory pointer count }) 10 count)
 called (Assume image journal) s =
     Went (next (record s { calls = s.calls ++ (record { image = bytes s.memory image 32; journal = bytes s.memory journal 32 } ∷ []) }) 10 0)
 
 unfoldable pub done : Act → State → Event
 done (Sets pc rd v) s = Went (record s { pc = pc; x = with_register s.x rd v })
-done (Loads op rd a) s = Went (next s rd (loaded op (number_of (bytes s.memory a (load_width op)))))
-done (Stores op a v) s = Went (next (record s { memory = put s.memory a (bytes_of (store_width op) v) }) 0 0)
+done (Loads op rd a) s =
+    let w = load_width op in Went (next s rd (loaded op (from_le_bytes w (bytes s.memory a (byte_len w)))))
+done (Stores op a v) s = Went (next (record s { memory = put s.memory a (to_le_bytes (store_width op) v) }) 0 0)
 done (Does call) s = called call s
 done (Faults fault) s = Faulted fault
 
@@ -129,8 +133,8 @@ step_of s = done (act s) s
 -- the ranges of data that an act reads or writes
 abbrev pub data_of : Act → List (ℕ × ℕ)
 data_of (Sets pc rd v) = []
-data_of (Loads op rd a) = (a, load_width op) ∷ []
-data_of (Stores op a v) = (a, store_width op) ∷ []
+data_of (Loads op rd a) = (a, byte_len (load_width op)) ∷ []
+data_of (Stores op a v) = (a, byte_len (store_width op)) ∷ []
 data_of (Does call) = ranges_of call
 data_of (Faults fault) = []
 
@@ -160,7 +164,7 @@ step_cost s = cost_of_act (act s)
 
 -- a memory with the words of x1 to x31 in the register page
 unfoldable pub full_of : (ℕ → ℕ) → List ℕ → ℕ → ℕ
-full_of m x = put m (top + 4) (bytes_of_words (drop 1 x))
+full_of m x = put m (top + 4) (flat_map (to_le_bytes w32) (drop 1 x))
 
 abbrev pub full : State → ℕ → ℕ
 full s = full_of s.memory s.x

@@ -1,6 +1,8 @@
 //! Bytes, halfwords and words of a bus.
 ghost use Rattle.std.specs.Prelude.{◌≡◌, ℕ, ◌+◌, ◌-◌, ◌*◌, ◌/◌, ◌%◌, ◌^◌, ◌<◌, ◌≤◌, ◌∷◌, [], IsTrue, OnOk, length};
-ghost use Rattle.page_core.specs.Memory.{bytes, put, number_of, bytes_of, bytes_of_words};
+ghost use Rattle.std.specs.Int.{w16, w32, to_le_bytes, from_le_bytes};
+ghost use Rattle.std.specs.List.{flat_map};
+ghost use Rattle.page_core.specs.Memory.{bytes, put};
 ghost use Rattle.rv_step.specs.Stepping.{Opens};
 
 use crate::bus::Bus;
@@ -27,7 +29,7 @@ pub(crate) fn load_byte<B: Bus>(bus: &B, address: u32) -> u8
 pub(crate) fn load_half<B: Bus>(bus: &B, address: u32) -> u16
     requires aligned { address % 2 ≡ 0 }
     requires opened { IsTrue (B.opens bus.now (address / 1024)) }
-    ensures { result ≡ number_of (bytes (B.byte_at bus.now) address 2) }
+    ensures { result ≡ from_le_bytes w16 (bytes (B.byte_at bus.now) address 2) }
 {
     let bytes = word_bytes(bus, address);
     let at = (address % 4) as usize;
@@ -52,7 +54,7 @@ pub(crate) fn store_half<B: Bus>(bus: &mut B, address: u32, value: u16)
     requires opened { IsTrue (B.opens bus.old (address / 1024)) }
     requires room { IsTrue (B.readies bus.old (address / 1024)) }
     ensures same_pages { B.opens bus.new ≡ B.opens bus.old }
-    ensures written { B.byte_at bus.new ≡ put (B.byte_at bus.old) address (bytes_of 2 value) }
+    ensures written { B.byte_at bus.new ≡ put (B.byte_at bus.old) address (to_le_bytes w16 value) }
 {
     let mut bytes = word_bytes(bus, address);
     let at = (address % 4) as usize;
@@ -69,7 +71,7 @@ pub(crate) fn store_words<B: Bus>(bus: &mut B, address: u32, words: &[u32])
     requires opened { Opens (B.opens bus.old) address (4 * length words.now) }
     requires room { Opens (B.readies bus.old) address (4 * length words.now) }
     ensures same_pages { B.opens bus.new ≡ B.opens bus.old }
-    ensures written { B.byte_at bus.new ≡ put (B.byte_at bus.old) address (bytes_of_words words.now) }
+    ensures written { B.byte_at bus.new ≡ put (B.byte_at bus.old) address (flat_map (to_le_bytes w32) words.now) }
 {
     let mut at = address;
     for word in words {

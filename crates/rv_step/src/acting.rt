@@ -1,5 +1,6 @@
 //! What an instruction does, by the pc and the registers alone.
 ghost use Rattle.std.specs.Prelude.{◌≡◌, ◌+◌, ◌%◌, ◌<◌, ◌*◌, ℕ};
+ghost use Rattle.std.specs.Int.{byte_len};
 ghost use Rattle.page_core.specs.Memory.{top};
 ghost use Rattle.rv_isa.specs.Words.{plus};
 ghost use Rattle.rv_isa.specs.Registers.{HasRegisters};
@@ -54,7 +55,7 @@ fn jump_to(target: u32, rd: u8, value: u32) -> Act
 
 // How many bytes a load reads.
 pub(crate) fn load_width(op: LoadOp) -> u32
-    ensures { result ≡ Rattle.rv_step.specs.Machine.load_width op }
+    ensures { result ≡ byte_len (Rattle.rv_step.specs.Machine.load_width op) }
 {
     match op {
         LoadOp::Lb | LoadOp::Lbu => 1,
@@ -65,7 +66,7 @@ pub(crate) fn load_width(op: LoadOp) -> u32
 
 // How many bytes a store writes.
 pub(crate) fn store_width(op: StoreOp) -> u32
-    ensures { result ≡ Rattle.rv_step.specs.Machine.store_width op }
+    ensures { result ≡ byte_len (Rattle.rv_step.specs.Machine.store_width op) }
 {
     match op {
         StoreOp::Sb => 1,

@@ -1,5 +1,6 @@
 ghost use Rattle.std.specs.Prelude.{◌≡◌, ◌≢◌, ℕ, ◌/◌, ◌%◌, ◌^◌, ◌<◌, Bool, IsTrue, IfOk, OnOk, All};
-ghost use Rattle.page_core.specs.Memory.{bytes, put, number_of, bytes_of};
+ghost use Rattle.std.specs.Int.{w32, to_le_bytes, from_le_bytes};
+ghost use Rattle.page_core.specs.Memory.{bytes, put};
 
 use std::alloc::AllocError;
 
@@ -23,7 +24,7 @@ pub trait Bus {
     fn load_word(&self, address: u32) -> u32
         requires aligned { address % 4 ≡ 0 }
         requires opened { IsTrue (opens self.now (address / 1024)) }
-        ensures value { result ≡ number_of (bytes (byte_at self.now) address 4) }
+        ensures value { result ≡ from_le_bytes w32 (bytes (byte_at self.now) address 4) }
         ensures bytes { All (λ byte. byte < 256) (bytes (byte_at self.now) address 4) };
 
     /// Makes an open page ready. Whether it could or not, no byte and no open page changes, and no
@@ -43,5 +44,5 @@ pub trait Bus {
         requires room { IsTrue (readies self.old (address / 1024)) }
         ensures same_pages { opens self.new ≡ opens self.old }
         ensures same_room { readies self.new ≡ readies self.old }
-        ensures written { byte_at self.new ≡ put (byte_at self.old) address (bytes_of 4 value) };
+        ensures written { byte_at self.new ≡ put (byte_at self.old) address (to_le_bytes w32 value) };
 }

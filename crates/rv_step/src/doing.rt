@@ -1,6 +1,7 @@
 //! What an act changes.
 ghost use Rattle.std.specs.Prelude.{◌≡◌, ◌+◌, ◌-◌, ◌*◌, ◌/◌, ◌%◌, ◌^◌, ◌<◌, ◌≤◌, ℕ, length, drop, IsTrue, OnOk, OnErr, ◌⊎◌};
-ghost use Rattle.page_core.specs.Memory.{top, put, bytes, number_of, bytes_of};
+ghost use Rattle.std.specs.Int.{byte_len, to_le_bytes, from_le_bytes};
+ghost use Rattle.page_core.specs.Memory.{top, put, bytes};
 ghost use Rattle.rv_isa.specs.Registers.{with_register};
 ghost use Rattle.host_calls.specs.declared.call.Call.TheVariants.{Read, Commit, Assume};
 ghost use Rattle.host_calls.specs.Calls.{fits_below, ranges_of, takes};
@@ -48,9 +49,9 @@ fn sign_extended(value: u32, half: u32) -> u32
 
 // The word that a load reads.
 fn load_value<B: Bus>(op: LoadOp, address: u32, bus: &B) -> u32
-    requires aligned { address % load_width op ≡ 0 }
+    requires aligned { address % byte_len (load_width op) ≡ 0 }
     requires opened { IsTrue (B.opens bus.now (address / 1024)) }
-    ensures { result ≡ loaded op (number_of (bytes (B.byte_at bus.now) address (load_width op))) }
+    ensures { result ≡ loaded op (from_le_bytes (load_width op) (bytes (B.byte_at bus.now) address (byte_len (load_width op)))) }
 {
     match op {
         LoadOp::Lb => sign_extended(u32::from(load_byte(bus, address)), 1 << 7),
@@ -63,11 +64,11 @@ fn load_value<B: Bus>(op: LoadOp, address: u32, bus: &B) -> u32
 
 // Writes what a store writes, in a page that is ready.
 fn store_value<B: Bus>(op: StoreOp, address: u32, value: u32, bus: &mut B)
-    requires aligned { address % store_width op ≡ 0 }
+    requires aligned { address % byte_len (store_width op) ≡ 0 }
     requires opened { IsTrue (B.opens bus.old (address / 1024)) }
     requires room { IsTrue (B.readies bus.old (address / 1024)) }
     ensures same_pages { B.opens bus.new ≡ B.opens bus.old }
-    ensures written { B.byte_at bus.new ≡ put (B.byte_at bus.old) address (bytes_of (store_width op) value) }
+    ensures written { B.byte_at bus.new ≡ put (B.byte_at bus.old) address (to_le_bytes (store_width op) value) }
 {
     match op {
         StoreOp::Sb => store_byte(bus, address, (value % 256) as u8),
@@ -80,7 +81,7 @@ fn store_value<B: Bus>(op: StoreOp, address: u32, value: u32, bus: &mut B)
 pub(crate) fn load<B: Bus>(op: LoadOp, rd: u8, address: u32, core: &mut Core, bus: &B)
     requires register { rd < 32 }
     requires place { core.old.pc < top }
-    requires aligned { address % load_width op ≡ 0 }
+    requires aligned { address % byte_len (load_width op) ≡ 0 }
     requires opened { IsTrue (B.opens bus.now (address / 1024)) }
     ensures place { core.new.pc ≡ core.old.pc + 4 }
     ensures went { (tape : Tape) (log : Log) → done (Loads op rd address) (state_at core.old (B.byte_at bus.now) tape log) ≡ Went (state_at core.new (B.byte_at bus.now) tape log) }
@@ -98,7 +99,7 @@ pub(crate) fn store<B: Bus>(
     bus: &mut B,
 ) -> Result<(), AllocError>
     requires place { core.old.pc < top }
-    requires aligned { address % store_width op ≡ 0 }
+    requires aligned { address % byte_len (store_width op) ≡ 0 }
     requires opened { IsTrue (B.opens bus.old (address / 1024)) }
     ensures same_pages { B.opens bus.new ≡ B.opens bus.old }
     ensures place { OnOk result (core.new.pc ≡ core.old.pc + 4) }

@@ -1,18 +1,19 @@
 -- The registers that a replay begins with.
 use Rattle.std.proofs.Common.{◌≡◌, ℕ, zero, suc, ◌+◌, ◌*◌, ◌/◌, ◌%◌, ◌^◌, ◌<◌, ◌≤◌, List, ◌∷◌, get_or, length, set, replicate, refl, sym, ap, ◌∙◌, arith, mod-eq_of_lt, length-set, get_or-set_same, get_or-set_other, ⊎_elim, Bool, false, Option, Some, None}
+use Rattle.std.specs.Int.{w32, from_le_bytes}
 use Rattle.std.proofs.lemmas.List.{ext_get_or}
 use Rattle.std.proofs.lemmas.Bool.Decides.{eqb_tells}
 use Rattle.std.specs.Prelude.{unwrap_or, is_some}
 use Rattle.page_core.specs.Pages.{zero_page}
 use Rattle.page_core.specs.Memories.{flat}
 use Rattle.rv_step.specs.Opened.{page_in, pages_in}
-use Rattle.page_core.specs.Memory.{top, bytes, number_of}
+use Rattle.page_core.specs.Memory.{top, bytes}
 use Rattle.rv_isa.specs.Registers.{with_register}
 use Rattle.seal_replay.specs.Replay.{words_at, registers_in}
 
 -- the word of register n in the register page
 abbrev pub shown_word : (ℕ → ℕ) → ℕ → ℕ
-shown_word m n = number_of (bytes m (top + 4 * n) 4)
+shown_word m n = from_le_bytes w32 (bytes m (top + 4 * n) 4)
 
 -- x0 is zero, and the registers from x1 to that before n are those that the memory shows
 pub record AreShown (m : ℕ → ℕ) (x : List ℕ) (n : ℕ) : Type 0 where
@@ -25,11 +26,11 @@ unfolding words_at
 length-words_at m a zero = refl
 length-words_at m a (suc n) = ap suc (length-words_at m (a + 4) n)
 
-get_or-words_at : (m : ℕ → ℕ) (a n k : ℕ) → k < n → get_or (words_at m a n) k 0 ≡ number_of (bytes m (a + 4 * k) 4)
+get_or-words_at : (m : ℕ → ℕ) (a n k : ℕ) → k < n → get_or (words_at m a n) k 0 ≡ from_le_bytes w32 (bytes m (a + 4 * k) 4)
 unfolding words_at
 get_or-words_at m a zero k h = absurd (omega arith)
-get_or-words_at m a (suc n) zero h = ap (λ (b : ℕ). number_of (bytes m b 4)) (omega arith)
-get_or-words_at m a (suc n) (suc k) h = get_or-words_at m (a + 4) n k (omega arith) ∙ ap (λ (b : ℕ). number_of (bytes m b 4)) (omega arith)
+get_or-words_at m a (suc n) zero h = ap (λ (b : ℕ). from_le_bytes w32 (bytes m b 4)) (omega arith)
+get_or-words_at m a (suc n) (suc k) h = get_or-words_at m (a + 4) n k (omega arith) ∙ ap (λ (b : ℕ). from_le_bytes w32 (bytes m b 4)) (omega arith)
 
 -- one more register
 pub one_more : (m : ℕ → ℕ) (x : List ℕ) (n w : ℕ) → AreShown m x n → 1 ≤ n → n < 32 → w < 2 ^ 32 → w ≡ shown_word m n → AreShown m (with_register x n w) (n + 1)
@@ -61,7 +62,7 @@ all_shown m x are = ext_get_or 0 x (0 ∷ words_at m (top + 4) 31) (are.size ∙
     each zero low = are.zero_first
     each (suc k) low =
         are.shown (suc k) (omega arith) low
-        ∙ ap (λ (b : ℕ). number_of (bytes m b 4)) (omega arith)
+        ∙ ap (λ (b : ℕ). from_le_bytes w32 (bytes m b 4)) (omega arith)
         ∙ sym (get_or-words_at m (top + 4) 31 k (omega arith))
 
 zero_in : (n k : ℕ) → get_or {A = ℕ} (replicate n 0) k 0 ≡ 0
@@ -77,8 +78,8 @@ zero_byte pages a shut at =
     ∙ zero_in 1024 (a % 1024)
 
 zero_word : (pages : List (Option (List ℕ))) (a : ℕ) → page_in pages 262143 ≡ None → top ≤ a → a + 4 ≤ top + 1024
-    → number_of (bytes (flat (pages_in pages)) a 4) ≡ 0
-unfolding number_of bytes
+    → from_le_bytes w32 (bytes (flat (pages_in pages)) a 4) ≡ 0
+unfolding bytes
 zero_word pages a shut low high =
     let b0 = zero_byte pages a shut (omega arith) in
     let b1 = zero_byte pages (a + 1) shut (omega arith) in

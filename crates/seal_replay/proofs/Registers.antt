@@ -1,33 +1,32 @@
 -- The registers that a seal shows are those of the state.
-use Rattle.std.proofs.Common.{◌≡◌, ℕ, zero, suc, ◌+◌, ◌-◌, ◌*◌, ◌/◌, ◌%◌, ◌^◌, ◌<◌, ◌≤◌, Bool, true, false, cond, ◌&&◌, leb, ltb, List, [], ◌∷◌, length, get_or, drop, refl, sym, ap, ap₂, ◌∙◌, arith, IsTrue}
+use Rattle.std.proofs.Common.{◌≡◌, ℕ, zero, suc, ◌+◌, ◌-◌, ◌*◌, ◌/◌, ◌^◌, ◌<◌, ◌≤◌, Bool, true, false, cond, ◌&&◌, leb, ltb, List, [], ◌∷◌, length, get_or, drop, refl, sym, ap, ap₂, ◌∙◌, arith, IsTrue}
+use Rattle.std.specs.Int.{w32, to_le_bytes, from_le_bytes}
+use Rattle.std.specs.List.{flat_map}
 use Rattle.std.proofs.lemmas.Bool.Decides.{nat_tests}
-use Rattle.page_core.specs.Memory.{top, bytes, put, number_of, bytes_of_words, contains, Agree}
+use Rattle.std.proofs.lemmas.List.{get_or_append_left}
+use Rattle.std.proofs.lemmas.Nat.{from_le_bytes-to_le_bytes_4}
+use Rattle.page_core.specs.Memory.{top, bytes, put, contains, Agree}
 use Rattle.rv_step.specs.Machine.{State, full, full_of}
 use Rattle.seal_replay.specs.Replay.{words_at, registers_in}
 use Rattle.rv_isa.specs.Registers.{AreRegisters}
-use Rattle.page_core.proofs.Bytes.{bytes-same, length-bytes_of_words}
+use Rattle.page_core.proofs.Bytes.{bytes-same, bytes-of, length-words}
 
-four_bytes : (v : ℕ) → v < 2 ^ 32 → v % 256 + 256 * (v / 256 % 256 + 256 * (v / 65536 % 256 + 256 * (v / 16777216 % 256 + 256 * 0))) ≡ v
-four_bytes v h = omega arith
-
-words_back : (m : ℕ → ℕ) (a : ℕ) (vs : List ℕ) → ((j : ℕ) → j < 4 * length vs → m (a + j) ≡ get_or (bytes_of_words vs) j 0)
+words_back : (m : ℕ → ℕ) (a : ℕ) (vs : List ℕ) → ((j : ℕ) → j < 4 * length vs → m (a + j) ≡ get_or (flat_map (to_le_bytes w32) vs) j 0)
     → ((k : ℕ) → get_or vs k 0 < 2 ^ 32) → words_at m a (length vs) ≡ vs
-unfolding words_at bytes number_of bytes_of_words
+unfolding words_at
 words_back m a [] same small = refl
 words_back m a (v ∷ vs) same small =
-    let b0 : m a ≡ v % 256 = ap m (omega arith) ∙ same 0 (omega arith) in
-    let b1 : m (a + 1) ≡ v / 256 % 256 = same 1 (omega arith) in
-    let b2 : m (a + 1 + 1) ≡ v / 65536 % 256 = ap m (omega arith) ∙ same 2 (omega arith) in
-    let b3 : m (a + 1 + 1 + 1) ≡ v / 16777216 % 256 = ap m (omega arith) ∙ same 3 (omega arith) in
-    ap₂ ◌∷◌ (rw (b0, b1, b2, b3) (four_bytes v (small 0)))
+    let word : bytes m a 4 ≡ to_le_bytes w32 v =
+    bytes-of m a (to_le_bytes w32 v) (λ j h. same j (omega arith) ∙ get_or_append_left (to_le_bytes w32 v) (flat_map (to_le_bytes w32) vs) 0 j h) in
+    ap₂ ◌∷◌ (ap (from_le_bytes w32) word ∙ from_le_bytes-to_le_bytes_4 v (small 0))
     (words_back m (a + 4) vs (λ j h. ap m (omega arith) ∙ same (suc (suc (suc (suc j)))) (omega arith)) (λ k. small (suc k)))
 
 -- a memory with registers in it has their bytes there
-full_bytes : (m : ℕ → ℕ) (x : List ℕ) (j : ℕ) → j < length (bytes_of_words (drop 1 x)) → full_of m x (top + 4 + j) ≡ get_or (bytes_of_words (drop 1 x)) j 0
+full_bytes : (m : ℕ → ℕ) (x : List ℕ) (j : ℕ) → j < length (flat_map (to_le_bytes w32) (drop 1 x)) → full_of m x (top + 4 + j) ≡ get_or (flat_map (to_le_bytes w32) (drop 1 x)) j 0
 unfolding full_of put
 full_bytes m x j h =
     let e : leb (top + 4) (top + 4 + j) ≡ true = grind (arith, nat_tests) in
-    let f : ltb (top + 4 + j) (top + 4 + length (bytes_of_words (drop 1 x))) ≡ true = grind (arith, nat_tests) in
+    let f : ltb (top + 4 + j) (top + 4 + length (flat_map (to_le_bytes w32) (drop 1 x))) ≡ true = grind (arith, nat_tests) in
     let k : top + 4 + j - (top + 4) ≡ j = omega arith in
     rw (e, f, k) refl
 
@@ -35,7 +34,7 @@ words_at-same : (m n : ℕ → ℕ) (a k : ℕ) → ((j : ℕ) → a ≤ j → j
 unfolding words_at
 words_at-same m n a zero h = refl
 words_at-same m n a (suc k) h =
-    ap₂ ◌∷◌ (ap number_of (bytes-same m n a 4 (λ j lo hi. h j lo (omega arith))))
+    ap₂ ◌∷◌ (ap (from_le_bytes w32) (bytes-same m n a 4 (λ j lo hi. h j lo (omega arith))))
     (words_at-same m n (a + 4) k (λ j lo hi. h j (omega arith) (omega arith)))
 
 registers_back : (m : ℕ → ℕ) (x : List ℕ) → AreRegisters x → registers_in (full_of m x) ≡ x
@@ -45,7 +44,7 @@ registers_back m (y ∷ x) h =
     let size : length x ≡ 31 = omega (arith, h.size) in
     let first : y ≡ 0 = h.zero_first in
     let rest : words_at (full_of m (y ∷ x)) (top + 4) (length x) ≡ x =
-    words_back (full_of m (y ∷ x)) (top + 4) x (λ j l. full_bytes m (y ∷ x) j (omega (arith, length-bytes_of_words x))) (λ k. h.are_words (suc k)) in
+    words_back (full_of m (y ∷ x)) (top + 4) x (λ j l. full_bytes m (y ∷ x) j (omega (arith, length-words x))) (λ k. h.are_words (suc k)) in
     ap₂ ◌∷◌ (sym first) (ap (words_at (full_of m (y ∷ x)) (top + 4)) (sym size) ∙ rest)
 
 registers_same : (m n : ℕ → ℕ) → ((j : ℕ) → top ≤ j → j < top + 1024 → m j ≡ n j) → registers_in m ≡ registers_in n
@@ -64,7 +63,7 @@ pub full_shown : (opened : List ℕ) (m : ℕ → ℕ) (s : State) → Agree ope
 unfolding full_of put
 full_shown opened m s agree =
     record {
-      at = λ a h. twice (leb (top + 4) a && ltb a (top + 4 + length (bytes_of_words (drop 1 s.x)))) (get_or (bytes_of_words (drop 1 s.x)) (a - (top + 4)) 0) (m a) (s.memory a) (agree.at a h);
+      at = λ a h. twice (leb (top + 4) a && ltb a (top + 4 + length (flat_map (to_le_bytes w32) (drop 1 s.x)))) (get_or (flat_map (to_le_bytes w32) (drop 1 s.x)) (a - (top + 4)) 0) (m a) (s.memory a) (agree.at a h);
     }
   where
     twice : (b : Bool) (g u v : ℕ) → u ≡ cond b g v → cond b g u ≡ cond b g v

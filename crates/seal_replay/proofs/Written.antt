@@ -1,14 +1,16 @@
 -- Open pages as parts of a memory, and the registers written into the register page.
 use Rattle.std.proofs.Common.{◌≡◌, ◌≢◌, ℕ, zero, suc, ◌+◌, ◌-◌, ◌*◌, ◌/◌, ◌%◌, ◌<◌, ◌≤◌, Bool, true, false, List, [], ◌∷◌, get_or, length, take, drop, Option, Some, None, refl, sym, ap, ◌∙◌, arith, IsTrue, inl, inr, ◌⊎◌}
+use Rattle.std.specs.Int.{w32, to_le_bytes}
+use Rattle.std.specs.List.{flat_map}
 use Rattle.std.specs.Prelude.{is_some, unwrap_or}
 use Rattle.std.proofs.lemmas.List.{length-replicate}
 use Rattle.std.proofs.lemmas.List.Elements.{All-replicate}
 use Rattle.std.proofs.lemmas.Bool.Decides.{leb_tells}
 use Rattle.std.proofs.Math.Seq.{take-length}
-use Rattle.page_core.specs.Memory.{top, put, bytes_of, bytes_of_words}
+use Rattle.page_core.specs.Memory.{top, put}
 use Rattle.page_core.specs.Pages.{Pages, IsPage, zero_page}
 use Rattle.page_core.specs.Memories.{flat, page_of}
-use Rattle.page_core.proofs.Bytes.{put-outside, length-bytes_of_words, page_same, bytes_hold_pages}
+use Rattle.page_core.proofs.Bytes.{put-outside, length-words, page_same, bytes_hold_pages}
 use Rattle.rv_step.specs.Machine.{full_of}
 use Rattle.rv_step.specs.Opened.{page_in, pages_in}
 use Rattle.rv_step.proofs.Words.{word_put, none_put}
@@ -35,14 +37,14 @@ shut_shown pages i is = page_shown (pages_in pages) i zero_page (ap (λ (o : Opt
 -- the registers from x1 to that before n are written into the memory of the pages, and the same pages are open
 pub record AreWritten (old new : List (Option (List ℕ))) (x : List ℕ) (n : ℕ) : Type 0 where
   pub opens : ◌≡◌ {A = ℕ → Bool} (λ page. is_some (page_in new page)) (λ page. is_some (page_in old page))
-  pub written : flat (pages_in new) ≡ put (flat (pages_in old)) (top + 4) (bytes_of_words (take (n - 1) (drop 1 x)))
+  pub written : flat (pages_in new) ≡ put (flat (pages_in old)) (top + 4) (flat_map (to_le_bytes w32) (take (n - 1) (drop 1 x)))
 
 pub written_none : (old : List (Option (List ℕ))) (x : List ℕ) → AreWritten old old x 1
 written_none old x = record { opens = refl; written = none_put (flat (pages_in old)) (top + 4) }
 
 pub written_next : (old mid new : List (Option (List ℕ))) (x : List ℕ) (n v at : ℕ) → AreWritten old mid x n → 1 ≤ n → n < 32 → length x ≡ 32
     → v ≡ get_or x n 0 → at ≡ top + 4 * n → ◌≡◌ {A = ℕ → Bool} (λ page. is_some (page_in new page)) (λ page. is_some (page_in mid page))
-    → flat (pages_in new) ≡ put (flat (pages_in mid)) at (bytes_of 4 v) → AreWritten old new x (n + 1)
+    → flat (pages_in new) ≡ put (flat (pages_in mid)) at (to_le_bytes w32 v) → AreWritten old new x (n + 1)
 written_next old mid new [] n v at before some low size is there opens after = absurd (omega (arith, size))
 written_next old mid new (y ∷ x) zero v at before some low size is there opens after = absurd (omega arith)
 written_next old mid new (y ∷ x) (suc k) v at before some low size is there opens after =
@@ -52,8 +54,8 @@ written_next old mid new (y ∷ x) (suc k) v at before some low size is there op
       opens = opens ∙ before.opens;
       written =
           word_put (flat (pages_in old)) (flat (pages_in mid)) (flat (pages_in new)) (top + 4) at k v x (omega (arith, size)) (omega (arith, there)) is
-          (before.written ∙ ap (λ (j : ℕ). put (flat (pages_in old)) (top + 4) (bytes_of_words (take j x))) this) after
-          ∙ ap (λ (j : ℕ). put (flat (pages_in old)) (top + 4) (bytes_of_words (take j x))) (sym next);
+          (before.written ∙ ap (λ (j : ℕ). put (flat (pages_in old)) (top + 4) (flat_map (to_le_bytes w32) (take j x))) this) after
+          ∙ ap (λ (j : ℕ). put (flat (pages_in old)) (top + 4) (flat_map (to_le_bytes w32) (take j x))) (sym next);
     }
 
 pub still_open : (old new : List (Option (List ℕ))) (x : List ℕ) (n at : ℕ) → AreWritten old new x n → at ≡ 262143 → is_some (page_in old 262143) ≡ true
@@ -65,19 +67,19 @@ unfolding full_of
 written_all old new [] are size = absurd (omega (arith, size))
 written_all old new (y ∷ x) are size =
     let rest : 32 - 1 ≡ length x = omega (arith, size) in
-    are.written ∙ ap (λ (xs : List ℕ). put (flat (pages_in old)) (top + 4) (bytes_of_words xs)) (ap (λ (j : ℕ). take j x) rest ∙ take-length x)
+    are.written ∙ ap (λ (xs : List ℕ). put (flat (pages_in old)) (top + 4) (flat_map (to_le_bytes w32) xs)) (ap (λ (j : ℕ). take j x) rest ∙ take-length x)
 
 -- no other page than the register page changes
 elsewhere : (m : ℕ → ℕ) (x : List ℕ) (p : ℕ) → length x ≡ 32 → p ≢ 262143 → page_of m p ≡ page_of (full_of m x) p
 unfolding full_of
 elsewhere m [] p size other = absurd (omega (arith, size))
 elsewhere m (y ∷ x) p size other =
-    page_same m (full_of m (y ∷ x)) p (λ a at. sym (put-outside m (top + 4) (bytes_of_words x) a (away a at)))
+    page_same m (full_of m (y ∷ x)) p (λ a at. sym (put-outside m (top + 4) (flat_map (to_le_bytes w32) x) a (away a at)))
   where
-    away : (a : ℕ) → a / 1024 ≡ p → (a < top + 4) ⊎ (top + 4 + length (bytes_of_words x) ≤ a)
+    away : (a : ℕ) → a / 1024 ≡ p → (a < top + 4) ⊎ (top + 4 + length (flat_map (to_le_bytes w32) x) ≤ a)
     away a at =
         elim (leb_tells 262143 p) [
-          | inl from ↦ inr (omega (arith, at, other, from.1, size, length-bytes_of_words x))
+          | inl from ↦ inr (omega (arith, at, other, from.1, size, length-words x))
           | inr low ↦ inl (omega (arith, at, low.1))
         ]
 

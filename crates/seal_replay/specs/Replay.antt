@@ -1,7 +1,8 @@
 -- Replay: a seal's stretch of a run over the pages that its tree opens, and where it stops.
 use Rattle.std.specs.Prelude.{ℕ, zero, suc, ◌+◌, ◌-◌, Bool, cond, eqb, List, [], ◌∷◌, length, Option, Some, None, option_and_then}
+use Rattle.std.specs.Int.{w32, from_le_bytes}
 use Rattle.rv_isa.specs.declared.fault.Fault.{Fault}
-use Rattle.page_core.specs.Memory.{top, bytes, number_of, contains}
+use Rattle.page_core.specs.Memory.{top, bytes, contains}
 use Rattle.rv_step.specs.Machine.{State, Event, Went, Halted, Faulted, step_of, foot_of, first_closed}
 use Rattle.rv_step.specs.Runs.{after, touched}
 use Rattle.page_core.specs.Memories.{flat}
@@ -24,7 +25,7 @@ opened_by seal = opened 0 seal.tree
 -- the n words from address a on
 unfoldable pub words_at : (ℕ → ℕ) → ℕ → ℕ → List ℕ
 words_at m a zero = []
-words_at m a (suc n) = number_of (bytes m a 4) ∷ words_at m (a + 4) n
+words_at m a (suc n) = from_le_bytes w32 (bytes m a 4) ∷ words_at m (a + 4) n
 
 -- x0 zero, and x1 to x31 of the register page
 unfoldable pub registers_in : (ℕ → ℕ) → List ℕ

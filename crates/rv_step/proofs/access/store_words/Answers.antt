@@ -1,5 +1,7 @@
 use Rattle.std.proofs.Common.{◌≡◌, suc, ◌+◌, ◌∙◌, refl, ap, arith, take}
-use Rattle.page_core.specs.Memory.{put, bytes_of_words}
+use Rattle.std.specs.Int.{w32, to_le_bytes}
+use Rattle.std.specs.List.{flat_map}
+use Rattle.page_core.specs.Memory.{put}
 use Rattle.rv_step.proofs.Words.{none_put, word_put}
 use Rattle.rv_step.proofs.access.store_words.Goals as goal
 
@@ -15,5 +17,5 @@ loop-word-preserved g c =
       c.store_word.ensures.same_room ∙ room,
       word_put (g.B.Bus.byte_at c.args.bus.now) _ _ c.args.address c.loop-word.at c.loop-word.word-index _ c.args.words.now (omega arith) there refl before
           c.store_word.ensures.written
-          ∙ ap (λ k. put (g.B.Bus.byte_at c.args.bus.now) c.args.address (bytes_of_words (take k c.args.words.now))) next,
+          ∙ ap (λ k. put (g.B.Bus.byte_at c.args.bus.now) c.args.address (flat_map (to_le_bytes w32) (take k c.args.words.now))) next,
     )

@@ -1,5 +1,7 @@
 use Rattle.std.proofs.Common.{ℕ, List, take, ap₂, ◌∙◌}
-use Rattle.page_core.specs.Memory.{put, bytes_of_words}
+use Rattle.std.specs.Int.{w32, to_le_bytes}
+use Rattle.std.specs.List.{flat_map}
+use Rattle.page_core.specs.Memory.{put}
 use Rattle.rv_step.proofs.Done.{reads_to, reads_none}
 use Rattle.rv_step.proofs.doing.read.Goals as goal
 
@@ -12,5 +14,5 @@ returns-clause-went g c = λ log.
     reads_to c.args.pointer c.args.count c.args.core.now c.go_on-2.new.core (g.B.Bus.byte_at c.args.bus.now) (g.B.Bus.byte_at c.store_words.new.bus)
     c.args.tape.now c.skip.new.self log
     (c.store_words.ensures.written
-    ∙ ap₂ (λ (m : ℕ → ℕ) (words : List ℕ). put m c.args.pointer (bytes_of_words (take c.args.count words))) c.make_range_ready.ensures.same_bytes c.rest.ensures)
+    ∙ ap₂ (λ (m : ℕ → ℕ) (words : List ℕ). put m c.args.pointer (flat_map (to_le_bytes w32) (take c.args.count words))) c.make_range_ready.ensures.same_bytes c.rest.ensures)
     c.skip.ensures c.go_on-2.ensures
