@@ -1,5 +1,7 @@
 -- The claims of an entry's seals, one after the other. H is the digest function.
 use Rattle.std.proofs.Common.{◌≡◌, ◌≢◌, ℕ, zero, suc, ◌+◌, ◌<◌, ◌≤◌, Bool, false, eqb, List, [], ◌∷◌, ◌++◌, length, take, drop, get_or, Option, Some, None, refl, sym, ap, ◌∙◌, subst, arith}
+use Rattle.lift_join.proofs.Joining.{not_none, chain_joined}
+use Rattle.std.proofs.Math.Dec.{eqb-suc-suc}
 use Rattle.std.specs.Prelude.{option_map}
 use Rattle.std.specs.Option.{option_or}
 use Rattle.std.proofs.lemmas.Bool.Decides.{nat_tests}
@@ -12,10 +14,9 @@ use Rattle.claim_types.specs.Claims.{SpanClaim}
 use Rattle.receipt_types.specs.Seals.{Seal}
 use Rattle.seal_replay.specs.Replay.{stop_of, ending}
 use Rattle.seal_replay.specs.Claiming.{before_of, after_of, claim_of}
-use Rattle.seal_replay.proofs.Chains.{first_none, second_none}
+use Rattle.page_core.proofs.Options.{first_none, second_none}
 use Rattle.lift_join.specs.Joins.{joined, chain_of}
 use Rattle.lift_join.proofs.Inversion.{HasClaim, has_claim}
-use Rattle.lift_join.proofs.Joining.{chain_joined}
 use Rattle.check_core.specs.declared.stop.CheckStop.{CheckStop}
 use Rattle.check_core.specs.Judgement.{broken_stop, joint_stop, end_stop, seal_stop, no_more, seals_stop}
 use Rattle.check_core.specs.Checking.{join_next}
@@ -42,9 +43,6 @@ pub record HasChained (H : List ℕ → List ℕ) (e : ℕ) (seals : List Seal) 
 pub none_chained : (H : List ℕ → List ℕ) (e : ℕ) (seals : List Seal) → HasChained H e seals 0 None
 none_chained H e seals = record { stops = refl; chained = refl; goes = λ _. tt }
 
-same_suc : (m n : ℕ) → eqb (suc m) (suc n) ≡ eqb m n
-same_suc m n = grind (arith, nat_tests)
-
 -- whether a seal is the last
 pub last_is : (seals : List Seal) (k : ℕ) → k < length seals → eqb (k + 1) (length seals) ≡ no_more (drop (k + 1) seals)
 last_is [] k low = absurd (omega arith)
@@ -52,7 +50,7 @@ last_is (seal ∷ []) zero low = refl
 last_is (seal ∷ next ∷ seals) zero low = grind (arith, nat_tests)
 last_is (seal ∷ seals) (suc k) low =
     let next : suc k + 1 ≡ suc (k + 1) = omega arith in
-    ap (λ (n : ℕ). eqb n (suc (length seals))) next ∙ same_suc (k + 1) (length seals) ∙ last_is seals k (omega arith) ∙ ap (λ (n : ℕ). no_more (drop n (seal ∷ seals))) (sym next)
+    ap (λ (n : ℕ). eqb n (suc (length seals))) next ∙ eqb-suc-suc (k + 1) (length seals) ∙ last_is seals k (omega arith) ∙ ap (λ (n : ℕ). no_more (drop n (seal ∷ seals))) (sym next)
 
 module _ (H : List ℕ → List ℕ) (e k : ℕ) (seals : List Seal) (chain : Option SpanClaim) (seal d : Seal) (low : k < length seals) (is : seal ≡ get_or seals k d) (so_far : HasChained H e seals k chain) where
   here : drop k seals ≡ seal ∷ drop (k + 1) seals
@@ -122,9 +120,6 @@ module _ (H : List ℕ → List ℕ) (e k : ℕ) (seals : List Seal) (chain : Op
 
     here_not_none : drop k seals ≢ []
     here_not_none e = not_none seal (drop (k + 1) seals) (sym here ∙ e)
-      where
-        not_none : (s : Seal) (rest : List Seal) → s ∷ rest ≢ []
-        not_none s rest h = cc
 
     pub chained_on : HasChained H e seals (k + 1) (Some (join_next chain next))
     chained_on = record {

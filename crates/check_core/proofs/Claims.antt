@@ -4,7 +4,7 @@ use Rattle.std.specs.Prelude.{option_map, option_and_then}
 use Rattle.std.specs.Option.{option_or}
 use Rattle.std.proofs.lemmas.List.{take_more, take_all, drop_more, drop_all}
 use Rattle.std.proofs.lemmas.Slice.Zip.{all_zipped_more}
-use Rattle.rv_step.proofs.Runs.{same_some}
+use Rattle.std.proofs.lemmas.Option.{same_Some}
 use Rattle.claim_types.specs.Claims.{SpanClaim}
 use Rattle.receipt_types.specs.Bundles.{Entry, Bundle, item}
 use Rattle.lift_join.specs.Joins.{chain_of}
@@ -61,7 +61,7 @@ module _ (H : List ℕ → List ℕ) where
   -- ---- the reports
   reports_parts : (o : Option EntryReport) (p : Option (List EntryReport)) (all : List EntryReport) → with_report o p ≡ Some all
       → (first : EntryReport) × (rest : List EntryReport) × (o ≡ Some first) × (p ≡ Some rest) × (all ≡ first ∷ rest)
-  reports_parts (Some first) (Some rest) all h = (first, rest, refl, refl, sym (same_some (first ∷ rest) all h))
+  reports_parts (Some first) (Some rest) all h = (first, rest, refl, refl, sym (same_Some (first ∷ rest) all h))
   reports_parts (Some first) None all h = absurd (cc)
   reports_parts None p all h = absurd (cc)
 
@@ -70,7 +70,7 @@ module _ (H : List ℕ → List ℕ) where
       → entry_reports H (entries ++ entry ∷ []) ≡ Some (reports ++ entry_report H entry claim ∷ [])
   one_more_reported [] reports entry claim told chain =
       ap (λ (o : Option SpanClaim). with_report (option_map (entry_report H entry) o) (Some [])) chain
-      ∙ ap (λ (rs : List EntryReport). Some (rs ++ entry_report H entry claim ∷ [])) (same_some [] reports told)
+      ∙ ap (λ (rs : List EntryReport). Some (rs ++ entry_report H entry claim ∷ [])) (same_Some [] reports told)
   one_more_reported (x ∷ entries) reports entry claim told chain =
       let (first, rest, is_first, is_rest, whole) = reports_parts (option_map (entry_report H x) (chain_of H x.seals)) (entry_reports H entries) reports told in
       ap₂ with_report is_first (one_more_reported entries rest entry claim is_rest chain)
@@ -78,13 +78,13 @@ module _ (H : List ℕ → List ℕ) where
 
   -- they tell the entries' claim digests
   pub reports_tell : (B : Bundle) (reports : List EntryReport) → entry_reports H B ≡ Some reports → TellDigests H B reports
-  reports_tell [] reports told e = ap (λ (rs : List EntryReport). reported_digest (item rs e)) (same_some [] reports told)
+  reports_tell [] reports told e = ap (λ (rs : List EntryReport). reported_digest (item rs e)) (same_Some [] reports told)
   reports_tell (x ∷ entries) reports told e =
       let (first, rest, is_first, is_rest, whole) = reports_parts (option_map (entry_report H x) (chain_of H x.seals)) (entry_reports H entries) reports told in
       at first rest is_first (reports_tell entries rest is_rest) e ∙ ap (λ (rs : List EntryReport). reported_digest (item rs e)) (sym whole)
     where
       digest_is : (o : Option SpanClaim) (first : EntryReport) → option_map (entry_report H x) o ≡ Some first → digest_or_none H o ≡ first.claim
-      digest_is (Some claim) first h = ap (λ (r : EntryReport). r.claim) (same_some (entry_report H x claim) first h)
+      digest_is (Some claim) first h = ap (λ (r : EntryReport). r.claim) (same_Some (entry_report H x claim) first h)
       digest_is None first h = absurd (cc)
 
       at : (first : EntryReport) (rest : List EntryReport) → option_map (entry_report H x) (chain_of H x.seals) ≡ Some first → TellDigests H entries rest
@@ -94,7 +94,7 @@ module _ (H : List ℕ → List ℕ) where
 
   -- as many as entries
   pub reports_long : (B : Bundle) (reports : List EntryReport) → entry_reports H B ≡ Some reports → length reports ≡ length B
-  reports_long [] reports told = ap length (sym (same_some [] reports told))
+  reports_long [] reports told = ap length (sym (same_Some [] reports told))
   reports_long (x ∷ entries) reports told =
       let (first, rest, is_first, is_rest, whole) = reports_parts (option_map (entry_report H x) (chain_of H x.seals)) (entry_reports H entries) reports told in
       ap length whole ∙ ap suc (reports_long entries rest is_rest)

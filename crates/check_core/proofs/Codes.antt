@@ -1,6 +1,9 @@
 -- The exit code of a replay is a word.
 use Rattle.std.proofs.Common.{◌≡◌, inl, inr, ℕ, zero, suc, ◌+◌, ◌-◌, ◌*◌, ◌/◌, ◌%◌, ◌^◌, ◌<◌, eqb, List, [], ◌∷◌, length, get_or, replicate, Option, Some, None, refl, sym, ap, ◌∙◌, subst, arith}
 use Rattle.std.specs.Int.{w32, from_le_bytes}
+use Rattle.seal_replay.proofs.Entered.{length-words_at}
+use Rattle.std.proofs.lemmas.Option.{cond_some}
+use Rattle.page_core.proofs.Zeros.{zero_byte}
 use Rattle.std.specs.Prelude.{unwrap_or}
 use Rattle.page_core.specs.Pages.{IsPage, zero_page}
 use Rattle.part_tree.specs.Part.{Part, pruned, branch, leaf, IsPart, page_at, fill}
@@ -18,7 +21,7 @@ use Rattle.receipt_types.specs.Seals.{Seal, IsSeal}
 use Rattle.seal_replay.specs.Claiming.{claim_of}
 use Rattle.lift_join.specs.Joins.{chain_of}
 use Rattle.receipt_types.specs.Bundles.{AreSeals}
-use Rattle.part_tree.proofs.Shown.{chosen, of_either}
+use Rattle.part_tree.proofs.Shown.{of_either}
 use Rattle.lift_join.proofs.Inversion.{has_claim, joins}
 use Rattle.check_core.proofs.Carries.{ends_with}
 
@@ -31,29 +34,18 @@ page_shape (suc h) i p (branch left right) page shape e =
       | inl l ↦ page_shape h (2 * i) p left page shape.0 l
       | inr r ↦ page_shape h (2 * i + 1) p right page shape.1 r
     ]
-page_shape zero i p (leaf own) page shape e = subst IsPage (chosen (eqb p i) own page e).1 shape
+page_shape zero i p (leaf own) page shape e = subst IsPage (cond_some (eqb p i) own page e).1 shape
 page_shape (suc h) i p (leaf own) page shape e = absurd shape
 
-zero_in : (n k : ℕ) → get_or {A = ℕ} (replicate n 0) k 0 ≡ 0
-zero_in zero k = refl
-zero_in (suc n) zero = refl
-zero_in (suc n) (suc k) = zero_in n k
-
 filled_small : (a : ℕ) (o : Option (List ℕ)) → ((page : List ℕ) → o ≡ Some page → IsPage page) → get_or (unwrap_or o zero_page) (a % 1024) 0 < 256
-unfolding zero_page
 filled_small a (Some page) shape =
     let is_page : IsPage page = shape page refl in
     let size : length page ≡ 1024 = is_page.0 in
     is_page.1 (a % 1024) 0 (omega arith)
-filled_small a None shape = omega (arith, zero_in 1024 (a % 1024))
+filled_small a None shape = omega (arith, zero_byte (a % 1024))
 
 pub fill_small : (t : Part) → IsPart 18 t → (a : ℕ) → flat (fill t) a < 256
 fill_small t shape a = filled_small a (page_at 0 t (a / 1024)) (λ page e. page_shape 18 0 (a / 1024) t page shape e)
-
-length-words_at : (m : ℕ → ℕ) (a n : ℕ) → length (words_at m a n) ≡ n
-unfolding words_at
-length-words_at m a zero = refl
-length-words_at m a (suc n) = ap suc (length-words_at m (a + 4) n)
 
 small_word : (m : ℕ → ℕ) (a : ℕ) → ((a : ℕ) → m a < 256) → from_le_bytes w32 (bytes m a 4) < 2 ^ 32
 unfolding bytes

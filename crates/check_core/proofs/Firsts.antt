@@ -1,6 +1,6 @@
 -- The first state of an accepted entry.
 use Rattle.std.proofs.Common.{◌≡◌, ℕ, zero, suc, subst, List, [], ◌∷◌, Some, sym, ap, ◌∙◌}
-use Rattle.rv_step.proofs.Runs.{same_some}
+use Rattle.std.proofs.lemmas.Option.{same_Some}
 use Rattle.claim_types.specs.Claims.{SpanClaim}
 use Rattle.receipt_types.specs.Seals.{Seal}
 use Rattle.receipt_types.specs.Bundles.{Entry, Bundle, item}
@@ -21,5 +21,5 @@ first_is H (seal ∷ next ∷ seals) claim h =
 -- ---- an entry by its number
 pub accepted_at : (H : List ℕ → List ℕ) (B : Bundle) (entries : List Entry) (e : ℕ) (entry : Entry) → AllAccepted H B entries → item entries e ≡ Some entry → EntryAccepted H B entry
 accepted_at H B [] e entry all h = absurd (cc)
-accepted_at H B (x ∷ entries) zero entry all h = subst (λ (y : Entry). EntryAccepted H B y) (same_some x entry h) all.0
+accepted_at H B (x ∷ entries) zero entry all h = subst (λ (y : Entry). EntryAccepted H B y) (same_Some x entry h) all.0
 accepted_at H B (x ∷ entries) (suc e) entry all h = accepted_at H B entries e entry all.1 h

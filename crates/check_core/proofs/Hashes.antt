@@ -1,5 +1,6 @@
 -- All that is hashed are bytes.
-use Rattle.std.proofs.Common.{◌≡◌, inl, inr, ℕ, zero, suc, ◌+◌, ◌*◌, ◌<◌, Bool, true, false, ◌&&◌, ltb, List, [], ◌∷◌, ◌++◌, length, map, drop, ◌-◌, replicate, Option, Some, None, refl, sym, subst, arith}
+use Rattle.std.proofs.Common.{◌≡◌, inl, inr, ℕ, zero, suc, ◌+◌, ◌*◌, ◌<◌, Bool, true, false, ◌&&◌, ltb, List, [], ◌∷◌, ◌++◌, length, map, ◌-◌, replicate, Option, Some, None, refl, sym, subst, arith}
+use Rattle.rv_step.proofs.Made.{full_pages, bytes_are}
 use Rattle.std.specs.Prelude.{Contains}
 use Rattle.std.specs.Int.{w16, w32, to_le_bytes}
 use Rattle.std.specs.List.{flat_map}
@@ -14,7 +15,7 @@ use Rattle.part_tree.proofs.Made.{bytes_of_root, tree_bytes, part_bytes}
 use Rattle.part_tree.proofs.Strings.{Contains-one}
 use Rattle.page_core.specs.Memory.{top}
 use Rattle.host_calls.specs.declared.call.AssumeCall.{AssumeCall}
-use Rattle.rv_step.specs.Machine.{State, full, full_of}
+use Rattle.rv_step.specs.Machine.{State, full}
 use Rattle.claim_types.specs.declared.claim.Exit.{Exit}
 use Rattle.claim_types.specs.declared.claim.Exit.TheVariants.{Split, Halted as HaltedWith}
 use Rattle.seal_replay.specs.Replay.{ending}
@@ -97,10 +98,6 @@ claim_tag_bytes = small_bytes claim_tag refl
 pub page_bytes : (m : ℕ → ℕ) → ((a : ℕ) → m a < 256) → ArePages (page_of m)
 page_bytes m h i = (length-bytes m (1024 * i) 1024, bytes_are m (1024 * i) 1024 h)
 
-pub full_bytes : (t : State) → IsMade t → (a : ℕ) → full t a < 256
-unfolding full_of
-full_bytes t made a = put_small t.memory (top + 4) (flat_map (to_le_bytes w32) (drop 1 t.x)) a (made.memory a) (words-small (drop 1 t.x))
-
 put_shape : (h i : ℕ) (t : Part) (m : ℕ → List ℕ) → ArePages m → IsPart h t → IsPart h (put i t m)
 put_shape h i (pruned digest) m memory shape = shape
 put_shape zero i (branch left right) m memory shape = shape
@@ -161,7 +158,7 @@ module _ (H : List ℕ → List ℕ) (is_digest : (x : List ℕ) → IsDigest (H
 
   -- ---- seals
   put_tree_shape : (seal : Seal) (exit : Exit) (t : State) → IsSeal seal → ending seal ≡ Some (exit, t) → IsPart 18 (put_tree seal t)
-  put_tree_shape seal exit t good e = put_shape 18 0 seal.tree (page_of (full t)) (page_bytes (full t) (full_bytes t (end_made seal exit t good e))) good.shape
+  put_tree_shape seal exit t good e = put_shape 18 0 seal.tree (page_of (full t)) (full_pages t (end_made seal exit t good e)) good.shape
 
   end_bytes : (seal : Seal) (o : Option (Exit × State)) → IsSeal seal → ending seal ≡ o → AllBytes (end_strings H seal o)
   end_bytes seal (Some (Split, t)) good e = λ x c. part_bytes H is_digest 18 (put_tree seal t) x (put_tree_shape seal Split t good e) c

@@ -11,7 +11,8 @@ use Rattle.claim_types.specs.declared.claim.Exit.{Exit}
 use Rattle.claim_types.specs.declared.claim.Exit.TheVariants.{Split, Halted as HaltedWith}
 use Rattle.seal_replay.specs.Replay.{ending}
 use Rattle.rv_step.specs.Laws.{IsReady}
-use Rattle.rv_step.proofs.Runs.{same_some, after-add}
+use Rattle.std.proofs.lemmas.Option.{same_Some}
+use Rattle.rv_step.proofs.Runs.{after-add}
 use Rattle.page_core.specs.Memories.{page_of}
 use Rattle.claim_types.specs.declared.state.State.{State as SystemState}
 use Rattle.claim_types.specs.Claims.{SpanClaim}
@@ -23,7 +24,8 @@ use Rattle.check_core.specs.Hashed.{seal_strings, end_strings}
 use Rattle.check_core.specs.Vouching.{SealAgrees, SealsAgree}
 use Rattle.part_tree.specs.Splits.{split_of, Exhibits}
 use Rattle.check_core.specs.Auditing.{seals_pair}
-use Rattle.part_tree.proofs.Splits.{first_shown, then_shown, Held, agree_or_shown, agree_unsplit, both_none}
+use Rattle.page_core.proofs.Options.{both_none}
+use Rattle.part_tree.proofs.Splits.{first_shown, then_shown, Held, agree_or_shown, agree_unsplit}
 use Rattle.lift_join.proofs.Inversion.{HasClaim, has_claim, joins}
 use Rattle.check_core.proofs.Stretches.{onward}
 
@@ -99,7 +101,7 @@ module _ (H : List ℕ → List ℕ) (is_digest : (x : List ℕ) → IsDigest (H
 
 own_unpaired : (H : List ℕ → List ℕ) (r s : State) (b : ℕ) (seal : Seal) → after r b ≡ Some s → SealAgrees H r b seal → split_of H (page_of (full s)) 18 0 seal.tree ≡ None
 own_unpaired H r s b seal reached agree =
-    let same : agree.state ≡ s = same_some agree.state s (sym agree.reached ∙ reached) in
+    let same : agree.state ≡ s = same_Some agree.state s (sym agree.reached ∙ reached) in
     subst (λ (t : State). split_of H (page_of (full t)) 18 0 seal.tree ≡ None) same (agree_unsplit H (page_of (full agree.state)) 18 0 seal.tree agree.agrees)
 
 -- seals that agree show no pair

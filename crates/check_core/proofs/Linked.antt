@@ -9,42 +9,28 @@ use Rattle.claim_types.specs.Claims.{SpanClaim, ok_digest}
 use Rattle.receipt_types.specs.Bundles.{Entry, Bundle, item}
 use Rattle.lift_join.specs.Joins.{chain_of}
 use Rattle.lift_join.proofs.Joining.{test_bytes, test_number}
-use Rattle.seal_replay.proofs.Endings.{number_same}
+use Rattle.std.proofs.lemmas.Bool.{ne_eqb, not-true, not-false, false_from_ne_true, false≢true}
 use Rattle.check_core.specs.declared.stop.CheckStop.{CheckStop}
 use Rattle.check_core.specs.declared.stop.CheckStop.TheVariants.{LinkCount, BadLink}
 use Rattle.check_core.specs.Entries.{digest_in}
 use Rattle.check_core.specs.Judgement.{stop_unless, calls_stop, links_stop, all_links_stop}
 
 -- ---- a test that decides
-unless_holds : (b : Bool) (stop : CheckStop) → b ≡ true → stop_unless b stop ≡ None
+pub unless_holds : (b : Bool) (stop : CheckStop) → b ≡ true → stop_unless b stop ≡ None
 unless_holds b stop h = ap (λ (t : Bool). stop_unless t stop) h
 
 pub unless_fails : (b : Bool) (stop : CheckStop) → b ≡ false → stop_unless b stop ≡ Some stop
 unless_fails b stop h = ap (λ (t : Bool). stop_unless t stop) h
 
-is_false : (b : Bool) → b ≢ true → b ≡ false
-is_false true n = absurd (n refl)
-is_false false n = refl
-
 pub other_bytes : (a b : List ℕ) → a ≢ b → bytes_eq a b ≡ false
-other_bytes a b n = is_false (bytes_eq a b) (λ e. n ((bytes_eq-Decides a b).0 e))
-
-other_numbers : (m n : ℕ) → m ≢ n → eqb m n ≡ false
-other_numbers m n h = is_false (eqb m n) (λ e. h (number_same m n e))
+other_bytes a b n = false_from_ne_true (bytes_eq a b) (λ e. n ((bytes_eq-Decides a b).0 e))
 
 -- what a test of two digests says
-false_not_true : false ≢ true
-false_not_true h = cc
-
 pub same_digests : (x y : List ℕ) (b : Bool) → b ≡ not (bytes_eq x y) → b ≡ false → x ≡ y
-same_digests x y b is e = go (bytes_eq x y) refl
-  where
-    go : (t : Bool) → bytes_eq x y ≡ t → x ≡ y
-    go true f = (bytes_eq-Decides x y).0 f
-    go false f = absurd (false_not_true (sym e ∙ is ∙ ap not f))
+same_digests x y b is e = (bytes_eq-Decides x y).0 (not-false _ (sym is ∙ e))
 
 pub other_digests : (x y : List ℕ) (b : Bool) → b ≡ not (bytes_eq x y) → b ≡ true → x ≢ y
-other_digests x y b is e same = false_not_true (ap not (sym (test_bytes x y same)) ∙ sym is ∙ e)
+other_digests x y b is e same = false≢true (sym (not-true _ (sym is ∙ e)) ∙ test_bytes x y same)
 
 -- an item at a place
 pub item_is : {A : Type 0} (xs : List A) (k : ℕ) (d : A) → k < length xs → item xs k ≡ Some (get_or xs k d)
@@ -89,7 +75,7 @@ module _ (H : List ℕ → List ℕ) (B : Bundle) where
   pub miscounted : (e : ℕ) (claim : SpanClaim) (links : List ℕ) → length claim.calls ≢ length links → links_stop H B e (Some claim) links ≡ Some (LinkCount e (length claim.calls) (length links))
   miscounted e claim links n =
       ap (λ (o : Option CheckStop). option_or o (calls_stop H B e 0 claim.calls links))
-      (unless_fails (eqb (length claim.calls) (length links)) (LinkCount e (length claim.calls) (length links)) (other_numbers (length claim.calls) (length links) n))
+      (unless_fails (eqb (length claim.calls) (length links)) (LinkCount e (length claim.calls) (length links)) (ne_eqb (length claim.calls) (length links) n))
 
   -- ---- entry k of the entries
   module _ (k : ℕ) (entries : List Entry) (entry d : Entry) (claim : SpanClaim) (low : k < length entries) (is : entry ≡ get_or entries k d) (chain : chain_of H entry.seals ≡ Some claim) where

@@ -9,7 +9,7 @@ use Rattle.page_core.specs.Images.{Image}
 use Rattle.claim_types.specs.declared.claim.Exit.{Exit}
 use Rattle.claim_types.specs.declared.claim.Exit.TheVariants.{Halted as HaltedWith}
 use Rattle.std.specs.Option.{option_or}
-use Rattle.rv_step.proofs.Runs.{same_some}
+use Rattle.std.proofs.lemmas.Option.{same_Some}
 use Rattle.claim_types.specs.States.{state_string, state_digest, zero_digest, halted_state}
 use Rattle.claim_types.specs.Claims.{SpanClaim, output_string, claim_string_of, resolved_output, claim_string, ok_output, ok_string, ok_digest}
 use Rattle.receipt_types.specs.Seals.{Seal}
@@ -22,7 +22,8 @@ use Rattle.check_core.specs.Hashed.{compared_oks, compared}
 use Rattle.check_core.specs.Vouching.{LinkedTo, Linked}
 use Rattle.part_tree.specs.Splits.{Pair, differ, Exhibits}
 use Rattle.check_core.specs.Auditing.{link_pair, calls_pair}
-use Rattle.part_tree.proofs.Splits.{differ_same, first_shown, then_shown, same_or_shown, both_none}
+use Rattle.page_core.proofs.Options.{both_none}
+use Rattle.part_tree.proofs.Splits.{differ_same, first_shown, then_shown, same_or_shown}
 use Rattle.check_core.proofs.Codes.{chain_code}
 use Rattle.lift_join.proofs.Inversion.{has_claim, joins}
 use Rattle.check_core.proofs.Firsts.{accepted_at}
@@ -70,7 +71,7 @@ module _ (H : List ℕ → List ℕ) (is_digest : (x : List ℕ) → IsDigest (H
   exit_zero : (entry : Entry) (claim : SpanClaim) → (l : ℕ) → item B l ≡ Some entry → chain_of H entry.seals ≡ Some claim → exit_bytes claim.exit ≡ exit_bytes (HaltedWith 0) → claim.exit ≡ HaltedWith 0
   exit_zero entry claim l is_entry chain e =
       let ok = (accepted_at H B B l entry accepted is_entry).halts in
-      let same : ok.claim ≡ claim = same_some ok.claim claim (sym ok.chain ∙ chain) in
+      let same : ok.claim ≡ claim = same_Some ok.claim claim (sym ok.chain ∙ chain) in
       let halted : claim.exit ≡ HaltedWith ok.code = sym (ap (λ (c : SpanClaim). c.exit) same) ∙ ok.exit in
       let small : ok.code < 2 ^ 32 = chain_code H entry.seals claim ok.code (entry_at B l entry good.entries is_entry).seals chain halted in
       let zero_code : ok.code ≡ 0 = code_zero ok.code small (ap exit_bytes (sym halted) ∙ e) in

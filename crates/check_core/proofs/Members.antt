@@ -7,7 +7,7 @@ use Rattle.part_tree.specs.Tree.{tree_strings}
 use Rattle.part_tree.proofs.Strings.{Contains-one}
 use Rattle.host_calls.specs.declared.call.AssumeCall.{AssumeCall}
 use Rattle.page_core.specs.Images.{Image}
-use Rattle.rv_step.proofs.Runs.{same_some}
+use Rattle.std.proofs.lemmas.Option.{same_Some}
 use Rattle.page_core.specs.Memories.{page_of}
 use Rattle.claim_types.specs.declared.state.State.{State as SystemState}
 use Rattle.claim_types.specs.States.{state_string, halted_state, image_string}
@@ -33,14 +33,14 @@ claim_entry H B e claim h = inside (λ (entry : Entry). chain_of H entry.seals) 
 
 pub entry_at : (entries : List Entry) (e : ℕ) (entry : Entry) → AreEntries entries → item entries e ≡ Some entry → IsEntry entry
 entry_at [] e entry good h = absurd (cc)
-entry_at (x ∷ entries) zero entry good h = subst (λ (y : Entry). IsEntry y) (same_some x entry h) good.0
+entry_at (x ∷ entries) zero entry good h = subst (λ (y : Entry). IsEntry y) (same_Some x entry h) good.0
 entry_at (x ∷ entries) (suc e) entry good h = entry_at entries e entry good.1 h
 
 -- ---- in the list
 in_entries : (f : Entry → List (List ℕ)) (entries : List Entry) (e : ℕ) (entry : Entry) → item entries e ≡ Some entry → (x : List ℕ) → Contains (f entry) x → Contains (flat_map f entries) x
 in_entries f [] e entry h x c = absurd (cc)
 in_entries f (y ∷ entries) zero entry h x c =
-    Contains-append_left (f y) (flat_map f entries) x (subst (λ (z : Entry). Contains (f z) x) (sym (same_some y entry h)) c)
+    Contains-append_left (f y) (flat_map f entries) x (subst (λ (z : Entry). Contains (f z) x) (sym (same_Some y entry h)) c)
 in_entries f (y ∷ entries) (suc e) entry h x c = Contains-append_right (f y) (flat_map f entries) x (in_entries f entries e entry h x c)
 
 module _ (H : List ℕ → List ℕ) (B : Bundle) (image : Image) where

@@ -5,7 +5,7 @@ use Rattle.std.specs.Option.{option_or}
 use Rattle.std.specs.Str.{bytes_eq}
 use Rattle.host_calls.specs.declared.call.AssumeCall.{AssumeCall}
 use Rattle.rv_step.specs.Machine.{State}
-use Rattle.rv_step.proofs.Runs.{same_some}
+use Rattle.std.proofs.lemmas.Option.{same_Some}
 use Rattle.claim_types.specs.declared.claim.Exit.{Exit}
 use Rattle.claim_types.specs.declared.claim.Exit.TheVariants.{Split, Halted as HaltedWith}
 use Rattle.claim_types.specs.declared.state.State.{State as SystemState}
@@ -42,10 +42,10 @@ either_some None b stop h = inr h
 
 unless_some : (b : Bool) (x stop : CheckStop) → IsOfEntries x → stop_unless b x ≡ Some stop → IsOfEntries stop
 unless_some true x stop good h = absurd (cc)
-unless_some false x stop good h = subst IsOfEntries (same_some x stop h) good
+unless_some false x stop good h = subst IsOfEntries (same_Some x stop h) good
 
 broken_some : (e k : ℕ) (o : Option ReplayStop) (stop : CheckStop) → broken_stop e k o ≡ Some stop → IsOfEntries stop
-broken_some e k (Some x) stop h = subst IsOfEntries (same_some (Stop.Broken e k x) stop h) tt
+broken_some e k (Some x) stop h = subst IsOfEntries (same_Some (Stop.Broken e k x) stop h) tt
 broken_some e k None stop h = absurd (cc)
 
 joint_some : (e k : ℕ) (o : Option SystemState) (s : SystemState) (stop : CheckStop) → joint_stop e k o s ≡ Some stop → IsOfEntries stop
@@ -54,7 +54,7 @@ joint_some e k None s stop h = absurd (cc)
 
 exit_some : (e k : ℕ) (exit : Exit) (is_last : Bool) (stop : CheckStop) → exit_stop e k exit is_last ≡ Some stop → IsOfEntries stop
 exit_some e k (HaltedWith code) is_last stop h = unless_some is_last (Stop.EndInside e k) stop tt h
-exit_some e k Split true stop h = subst IsOfEntries (same_some (Stop.NoEnd e) stop h) tt
+exit_some e k Split true stop h = subst IsOfEntries (same_Some (Stop.NoEnd e) stop h) tt
 exit_some e k Split false stop h = absurd (cc)
 
 end_some : (e k : ℕ) (o : Option (Exit × State)) (is_last : Bool) (stop : CheckStop) → end_stop e k o is_last ≡ Some stop → IsOfEntries stop
@@ -127,7 +127,7 @@ image_some H id (Some first) stop h = go (bytes_eq (state_digest H first) id) h
   where
     go : (b : Bool) → stop_unless b (Stop.WrongImage (state_digest H first)) ≡ Some stop → IsOfBundle stop
     go true e = absurd (cc)
-    go false e = subst (λ (x : CheckStop). IsOfBundle x) (same_some (Stop.WrongImage (state_digest H first)) stop e) tt
+    go false e = subst (λ (x : CheckStop). IsOfBundle x) (same_Some (Stop.WrongImage (state_digest H first)) stop e) tt
 
 first_some : (H : List ℕ → List ℕ) (B : Bundle) (id : List ℕ) (stop : CheckStop) → first_stop H B id ≡ Some stop → IsOfBundle stop
 first_some H B id stop h =
@@ -149,12 +149,12 @@ stops_first H B id (Stop.BadLink e call wanted found) first = first
 
 -- ---- the image
 right_image : (H : List ℕ → List ℕ) (id found : List ℕ) (o : Option SystemState) → option_map (state_digest H) o ≡ Some found → found ≡ id → image_stop H id o ≡ None
-right_image H id found (Some first) h same = image_none H id (Some first) first refl (same_some (state_digest H first) found h ∙ same)
+right_image H id found (Some first) h same = image_none H id (Some first) first refl (same_Some (state_digest H first) found h ∙ same)
 right_image H id found None h same = refl
 
 wrong_image : (H : List ℕ → List ℕ) (id found : List ℕ) (o : Option SystemState) → option_map (state_digest H) o ≡ Some found → found ≢ id → image_stop H id o ≡ Some (Stop.WrongImage found)
 wrong_image H id found (Some first) h other =
-    let is : state_digest H first ≡ found = same_some (state_digest H first) found h in
+    let is : state_digest H first ≡ found = same_Some (state_digest H first) found h in
     unless_fails (bytes_eq (state_digest H first) id) (Stop.WrongImage (state_digest H first)) (other_bytes (state_digest H first) id (λ e. other (sym is ∙ e))) ∙ ap (λ (d : List ℕ). Some (Stop.WrongImage d)) is
 wrong_image H id found None h other = absurd (cc)
 

@@ -1,5 +1,7 @@
 -- A bundle is accepted exactly where nothing stops it.
 use Rattle.std.proofs.Common.{◌≡◌, ◌≢◌, ℕ, suc, ◌+◌, Bool, true, false, eqb, List, [], ◌∷◌, length, Option, Some, None, refl, sym, ap, ap₂, ◌∙◌, subst, arith}
+use Rattle.lift_join.proofs.Joining.{not_none, test_bytes, test_number, test_state, join_some}
+use Rattle.check_core.proofs.Linked.{unless_holds}
 use Rattle.std.specs.Prelude.{option_map}
 use Rattle.std.specs.Str.{bytes_eq}
 use Rattle.std.proofs.lemmas.Slice.Eq.{bytes_eq-Decides}
@@ -10,9 +12,8 @@ use Rattle.claim_types.specs.declared.claim.Exit.TheVariants.{Split, Halted as H
 use Rattle.seal_replay.specs.Replay.{stop_of, ending}
 use Rattle.seal_replay.specs.declared.stop.ReplayStop.{ReplayStop}
 use Rattle.std.specs.Option.{option_or}
-use Rattle.seal_replay.proofs.Chains.{first_none, second_none}
+use Rattle.page_core.proofs.Options.{first_none, second_none, both_none}
 use Rattle.seal_replay.proofs.Endings.{cond_none, has_ending, claim_from}
-use Rattle.part_tree.proofs.Splits.{both_none}
 use Rattle.claim_types.specs.declared.state.State.{State as SystemState}
 use Rattle.claim_types.specs.States.{state_digest}
 use Rattle.claim_types.specs.Claims.{SpanClaim, ok_digest}
@@ -23,19 +24,15 @@ use Rattle.receipt_types.specs.Bundles.{Entry, Bundle, AreEntries}
 use Rattle.check_core.specs.Entries.{first_of, first_at, digest_in}
 use Rattle.check_core.specs.declared.stop.CheckStop.{CheckStop}
 use Rattle.check_core.specs.declared.stop.CheckStop.TheVariants.{WrongImage, Unjoined, LinkCount, BadLink}
-use Rattle.lift_join.proofs.Joining.{test_bytes, test_number, test_state, join_some}
 use Rattle.check_core.specs.Judgement.{Answered, Halts, AllAccepted, stop_unless, image_stop, broken_stop, joint_stop, end_stop, seal_stop, no_more, seals_stop, entries_stop, calls_stop, links_stop, all_links_stop}
 use Rattle.check_core.specs.Laws.{AcceptedUnstopped}
 use Rattle.lift_join.proofs.Inversion.{has_claim, joins, same_state_tells}
-use Rattle.seal_replay.proofs.Endings.{number_same}
+use Rattle.std.proofs.lemmas.Bool.{eqb-true}
 use Rattle.check_core.proofs.Carries.{ends_with}
 
 -- ---- tests
 unless_true : (b : Bool) (stop : CheckStop) → stop_unless b stop ≡ None → b ≡ true
 unless_true b stop h = cond_none b stop h
-
-true_unless : (b : Bool) (stop : CheckStop) → b ≡ true → stop_unless b stop ≡ None
-true_unless b stop h = ap (λ (t : Bool). stop_unless t stop) h
 
 pub same_bytes : (a b : List ℕ) → bytes_eq a b ≡ true → a ≡ b
 same_bytes a b h = (bytes_eq-Decides a b).0 h
@@ -55,7 +52,7 @@ joint_meets e k (Some a) s h = same_state_tells a s (unless_true (same_state a s
 
 meets_joint : (e k : ℕ) (o : Option SystemState) (s : SystemState) → Meets o s → joint_stop e k o s ≡ None
 meets_joint e k None s h = refl
-meets_joint e k (Some a) s h = true_unless (same_state a s) (Unjoined e k a s) (test_state a s h)
+meets_joint e k (Some a) s h = unless_holds (same_state a s) (Unjoined e k a s) (test_state a s h)
 
 last_halts : (e k : ℕ) (x : Exit × State) → end_stop e k (Some x) true ≡ None → (code : ℕ) × (x.0 ≡ HaltedWith code)
 last_halts e k (Split, t) h = absurd (cc)
@@ -64,9 +61,6 @@ last_halts e k (HaltedWith code, t) h = (code, refl)
 pub inner_splits : (e k : ℕ) (x : Exit × State) → end_stop e k (Some x) false ≡ None → x.0 ≡ Split
 inner_splits e k (Split, t) h = refl
 inner_splits e k (HaltedWith code, t) h = absurd (cc)
-
-some_not_none : (seal : Seal) (seals : List Seal) → seal ∷ seals ≢ []
-some_not_none seal seals e = cc
 
 -- what the absence of a stop says of the first seal
 record Unstopped (H : List ℕ → List ℕ) (e k : ℕ) (last : Option SystemState) (seal : Seal) (seals : List Seal) : Type 0 where
@@ -108,7 +102,7 @@ none_halts H e k last (seal ∷ []) n h =
 none_halts H e k last (seal ∷ next ∷ seals) n h =
     let u = unstopped H e k last seal (next ∷ seals) h in
     let is : u.exit.0 ≡ Split = inner_splits e k u.exit u.end_none in
-    let (rest, meets) = none_halts H e (k + 1) (Some (after_of H seal u.exit)) (next ∷ seals) (some_not_none next seals) u.rest in
+    let (rest, meets) = none_halts H e (k + 1) (Some (after_of H seal u.exit)) (next ∷ seals) (not_none next seals) u.rest in
     let here = claim_at H seal u.exit in
     let chain : chain_of H (seal ∷ next ∷ seals) ≡ Some (joined here rest.claim) =
     ap₂ join_both (claim_from H seal u.exit u.clean u.ends) rest.chain
@@ -170,7 +164,7 @@ answered_none H B e k [] links h = refl
 answered_none H B e k (call ∷ calls) [] h = absurd h
 answered_none H B e k (call ∷ calls) (link ∷ links) h =
     both_none (stop_unless (bytes_eq (ok_digest H call) (digest_in H B link)) (BadLink e k (ok_digest H call) (digest_in H B link))) (calls_stop H B e (k + 1) calls links)
-    (true_unless (bytes_eq (ok_digest H call) (digest_in H B link)) (BadLink e k (ok_digest H call) (digest_in H B link)) (test_bytes (ok_digest H call) (digest_in H B link) h.0))
+    (unless_holds (bytes_eq (ok_digest H call) (digest_in H B link)) (BadLink e k (ok_digest H call) (digest_in H B link)) (test_bytes (ok_digest H call) (digest_in H B link) h.0))
     (answered_none H B e (k + 1) calls links h.1)
 
 links_answered : (H : List ℕ → List ℕ) (B : Bundle) (e : ℕ) (o : Option SpanClaim) (claim : SpanClaim) (links : List ℕ) → o ≡ Some claim → links_stop H B e o links ≡ None → Answered H B claim.calls links
@@ -179,14 +173,14 @@ links_answered H B e o claim links is h =
     let bad = LinkCount e (length claim.calls) (length links) in
     let count = stop_unless (eqb (length claim.calls) (length links)) bad in
     calls_answered H B e 0 claim.calls links
-    (number_same (length claim.calls) (length links) (unless_true (eqb (length claim.calls) (length links)) bad (first_none count (calls_stop H B e 0 claim.calls links) g)))
+    (eqb-true (length claim.calls) (length links) (unless_true (eqb (length claim.calls) (length links)) bad (first_none count (calls_stop H B e 0 claim.calls links) g)))
     (second_none count (calls_stop H B e 0 claim.calls links) g)
 
 pub links_none : (H : List ℕ → List ℕ) (B : Bundle) (e : ℕ) (o : Option SpanClaim) (claim : SpanClaim) (links : List ℕ) → o ≡ Some claim → Answered H B claim.calls links → links_stop H B e o links ≡ None
 links_none H B e o claim links is h =
     ap (λ (p : Option SpanClaim). links_stop H B e p links) is
     ∙ both_none (stop_unless (eqb (length claim.calls) (length links)) (LinkCount e (length claim.calls) (length links))) (calls_stop H B e 0 claim.calls links)
-    (true_unless (eqb (length claim.calls) (length links)) (LinkCount e (length claim.calls) (length links)) (test_number (length claim.calls) (length links) (answered_length H B claim.calls links h)))
+    (unless_holds (eqb (length claim.calls) (length links)) (LinkCount e (length claim.calls) (length links)) (test_number (length claim.calls) (length links) (answered_length H B claim.calls links h)))
     (answered_none H B e 0 claim.calls links h)
 
 -- ---- the entries
@@ -229,7 +223,7 @@ image_is H id o s is h =
 
 pub image_none : (H : List ℕ → List ℕ) (id : List ℕ) (o : Option SystemState) (s : SystemState) → o ≡ Some s → state_digest H s ≡ id → image_stop H id o ≡ None
 image_none H id o s is h =
-    ap (image_stop H id) is ∙ true_unless (bytes_eq (state_digest H s) id) (WrongImage (state_digest H s)) (test_bytes (state_digest H s) id h)
+    ap (image_stop H id) is ∙ unless_holds (bytes_eq (state_digest H s) id) (WrongImage (state_digest H s)) (test_bytes (state_digest H s) id h)
 
 pub accepted_unstopped : (H : List ℕ → List ℕ) → AcceptedUnstopped H
 accepted_unstopped H B id good = (

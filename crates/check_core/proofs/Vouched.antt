@@ -1,15 +1,16 @@
 -- An accepted entry vouches for the image of its first state, or two hashed strings collide.
 use Rattle.std.proofs.Common.{◌≡◌, ◌⊎◌, inl, inr, ℕ, ◌^◌, ◌<◌, List, [], ◌∷◌, length, Option, Some, None, refl, sym, ap, ap₂, ◌∙◌, subst, arith}
+use Rattle.std.proofs.lemmas.Option.{none-some, same_Some}
 use Rattle.std.specs.Prelude.{Contains, option_and_then}
 use Rattle.digest_core.specs.Digests.{IsDigest}
 use Rattle.part_tree.specs.Tree.{node_string}
-use Rattle.part_tree.proofs.Splits.{length-root_of, differ_same, first_shown, then_shown, same_or_shown, both_none}
+use Rattle.page_core.proofs.Options.{both_none}
+use Rattle.part_tree.proofs.Splits.{length-root_of, differ_same, first_shown, then_shown, same_or_shown}
 use Rattle.rv_step.specs.Machine.{State}
 use Rattle.page_core.specs.Images.{Image, IsImage}
 use Rattle.rv_step.specs.Runs.{start, after}
 use Rattle.claim_types.specs.declared.claim.Exit.TheVariants.{Halted as HaltedWith}
 use Rattle.std.specs.Option.{option_or}
-use Rattle.rv_step.proofs.Runs.{same_some}
 use Rattle.seal_replay.proofs.Chains.{start_ready}
 use Rattle.page_core.specs.Memories.{page_of}
 use Rattle.claim_types.specs.declared.state.State.{State as SystemState}
@@ -39,7 +40,7 @@ use Rattle.check_core.proofs.Strings.{state_parts}
 pub faithful_vouches : (H : List ℕ → List ℕ) → FaithfulVouches H
 faithful_vouches H B id e image good is_image accepts f =
     let ok = (accepted_at H B B e f.entry accepts.entries f.is_entry).halts in
-    let same : ok.claim ≡ f.claim = same_some ok.claim f.claim (sym ok.chain ∙ f.is_claim) in
+    let same : ok.claim ≡ f.claim = same_Some ok.claim f.claim (sym ok.chain ∙ f.is_claim) in
     let exit : f.claim.exit ≡ HaltedWith ok.code = sym (ap (λ (c : SpanClaim). c.exit) same) ∙ ok.exit in
     record {
       entry = f.entry;
@@ -57,7 +58,7 @@ module _ (H : List ℕ → List ℕ) (is_digest : (x : List ℕ) → IsDigest (H
   first_fits : (seals : List Seal) (first : SystemState) → AreSeals seals → first_of H seals ≡ Some first → (first.pc < 2 ^ 32) × (length first.root ≡ 32)
   first_fits [] first good h = absurd (cc)
   first_fits (seal ∷ seals) first good h =
-      subst (λ (s : SystemState). (s.pc < 2 ^ 32) × (length s.root ≡ 32)) (same_some _ first h)
+      subst (λ (s : SystemState). (s.pc < 2 ^ 32) × (length s.root ≡ 32)) (same_Some _ first h)
       (good.0.is_word, length-root_of H is_digest 18 seal.tree good.0.shape)
 
   module _ (B : Bundle) (id : List ℕ) (e : ℕ) (image : Image) (good : IsBundle B) (is_image : IsImage image) (accepts : Accepts H B id) where
@@ -70,8 +71,8 @@ module _ (H : List ℕ → List ℕ) (is_digest : (x : List ℕ) → IsDigest (H
         agree_all H is_digest (compared H B image) s s 0 entry.seals claim code chain exit (entry_at B e entry good.entries is_entry).seals
         refl (start_ready image (words_of entry.seals) is_image) refl
         (ap (λ (x : SystemState). x.pc) begins)
-        (ap (λ (x : SystemState). x.root) begins ∙ sym (start_root H image (words_of entry.seals) is_image))
-        (λ x c. tree_in H B image x (subst (λ (l : List (List ℕ)). Contains l x) (start_strings H image (words_of entry.seals) is_image) c))
+        (ap (λ (x : SystemState). x.root) begins ∙ sym (start_root H image (words_of entry.seals) is_image.rest))
+        (λ x c. tree_in H B image x (subst (λ (l : List (List ℕ)). Contains l x) (start_strings H image (words_of entry.seals) is_image.rest) c))
         (seals_in H B image e entry is_entry)
 
     run_unpaired : (entry : Entry) → SealsAgree H (start image (words_of entry.seals)) 0 entry.seals → seals_pair H (Some (start image (words_of entry.seals))) entry.seals ≡ None
@@ -92,7 +93,7 @@ module _ (H : List ℕ → List ℕ) (is_digest : (x : List ℕ) → IsDigest (H
         let chain = ok.halts.chain in
         let seals = (entry_at B e entry good.entries is_entry).seals in
         let begin : first_of H entry.seals ≡ Some claim.before = first_is H entry.seals claim chain in
-        let before : first ≡ claim.before = same_some first claim.before (sym of_entry ∙ begin) in
+        let before : first ≡ claim.before = same_Some first claim.before (sym of_entry ∙ begin) in
         let fits = first_fits entry.seals claim.before seals begin in
         let same_digest : H (state_string H claim.before) ≡ H (image_string H image) = sym (ap (λ (x : SystemState). state_digest H x) before) ∙ same_id in
         let one : Option Pair = differ (state_string H claim.before) (image_string H image) in
@@ -167,18 +168,15 @@ module _ (H : List ℕ → List ℕ) (is_digest : (x : List ℕ) → IsDigest (H
   headline B id e first image good is_image accepts is_first same_id =
       elim (faithful_or_collides B id e first image good is_image accepts is_first same_id) [ inl f ↦ inl (faithful_vouches H B id e image good is_image accepts f) | inr c ↦ inr c ]
 
-  some_none : (pair : Pair) → None ≡ Some pair → ⊥
-  some_none pair e = cc
-
   pub audit_is_exact : AuditIsExact H
   audit_is_exact B id e first image good is_image accepts is_first same_id =
       let both = faithful_or_shown B id e image good is_image accepts first is_first same_id in (
         (
-          λ none. elim both [ inl f ↦ f | inr x ↦ absurd (some_none x.pair (sym none ∙ x.is)) ],
+          λ none. elim both [ inl f ↦ f | inr x ↦ absurd (none-some x.pair (sym none ∙ x.is)) ],
           λ f. faithful_unpaired B id e image good is_image accepts f,
         ),
         λ pair found. elim both [
-          | inl f ↦ absurd (some_none pair (sym (faithful_unpaired B id e image good is_image accepts f) ∙ found))
-          | inr x ↦ subst (λ (p : Pair). IsCollision H (compared H B image) p.left p.right) (same_some x.pair pair (sym x.is ∙ found)) (is_collision B image good is_image (audit_pair H B e image) x)
+          | inl f ↦ absurd (none-some pair (sym (faithful_unpaired B id e image good is_image accepts f) ∙ found))
+          | inr x ↦ subst (λ (p : Pair). IsCollision H (compared H B image) p.left p.right) (same_Some x.pair pair (sym x.is ∙ found)) (is_collision B image good is_image (audit_pair H B e image) x)
         ],
       )

@@ -33,3 +33,19 @@ ends_written A Collision lines kept told told' taken taken' answer printed wrote
 ends_written A ReadFault lines kept told told' taken taken' answer printed wrote put = absurd printed
 ends_written A WriteFault lines kept told told' taken taken' answer printed wrote put = absurd printed
 ends_written A Memory lines kept told told' taken taken' answer printed wrote put = absurd printed
+
+-- ---- a status of 0
+pub not_refused : {A : Type 0} → Done ≡ Refused → A
+not_refused e = absurd (cc)
+
+pub not_words : {A : Type 0} → Done ≡ Words → A
+not_words e = absurd (cc)
+
+pub not_no_file : {A : Type 0} → Done ≡ NoFile → A
+not_no_file e = absurd (cc)
+
+pub not_too_long : {A : Type 0} → Done ≡ TooLong → A
+not_too_long e = absurd (cc)
+
+pub not_bad_file : {A : Type 0} → Done ≡ BadFile → A
+not_bad_file e = absurd (cc)

@@ -1,22 +1,11 @@
 -- The root of a memory that is stored by pages.
-use Rattle.std.proofs.Common.{◌≡◌, inl, inr, ℕ, ◌+◌, ◌<◌, List, [], ◌∷◌, refl, sym, ap, arith}
-use Rattle.std.proofs.lemmas.Bool.Decides.{eqb_tells}
-use Rattle.page_core.specs.Pages.{ArePages}
+use Rattle.std.proofs.Common.{◌≡◌, ℕ, List, sym, ap}
 use Rattle.page_core.specs.Memories.{page_of}
 use Rattle.page_core.specs.Stored.{Stored, IsStoredFrom, stored_pages, memory_of}
 use Rattle.page_core.proofs.Bytes.{bytes_hold_pages}
 use Rattle.part_tree.specs.Tree.{root}
 use Rattle.part_tree.proofs.Change.{same_pages}
-use Rattle.page_tree.proofs.Held.{zeros_are}
-
--- each page of a stored memory has its bytes
-pages_are : (stored : Stored) (least : ℕ) → IsStoredFrom least stored → ArePages (stored_pages stored)
-pages_are [] least are number = zeros_are
-pages_are (p ∷ ps) least are number =
-    elim (eqb_tells number p.0) [
-      | inl t ↦ rw t.0 are.2
-      | inr t ↦ rw t.0 (pages_are ps (p.0 + 1) are.3 number)
-    ]
+use Rattle.page_core.proofs.Zeros.{pages_are}
 
 -- the root over the stored pages is that over the pages of the memory's bytes
 pub image_root : (H : List ℕ → List ℕ) (stored : Stored) → IsStoredFrom 0 stored → root H (stored_pages stored) ≡ root H (page_of (memory_of stored))

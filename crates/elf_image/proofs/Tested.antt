@@ -13,10 +13,6 @@ use Rattle.elf_image.specs.Tests.{Test, load_tests, all_load_tests, first_fault}
 pub range_passes : (size start limit : ℕ) → (size ≡ 0) ⊎ (start + size ≤ limit) → (size == 0 || leb (start + size) limit) ≡ true
 range_passes size start limit h = grind (arith, nat_tests)
 
--- an order that holds passes
-pub order_passes : (a b : ℕ) → a ≤ b → leb a b ≡ true
-order_passes a b h = grind (arith, nat_tests)
-
 -- a step of `fault_after`: a first test, of whose fault there is none
 after_one : (passes : Bool) (fault : ElfStop) (first all after : Option ElfStop) → (first ≡ None → all ≡ after) → (if passes then first else Some fault) ≡ None
     → (if passes then all else Some fault) ≡ after

@@ -6,13 +6,14 @@ use Rattle.rv_step.specs.Runs.{after, spent, touched, state_gone, ends_with, ste
 use Rattle.rv_step.specs.Laws.{IsReady}
 use Rattle.rv_step.specs.declared.outcome.Outcome.{Outcome}
 use Rattle.rv_step.specs.declared.outcome.Outcome.TheVariants.{OverLimit}
-use Rattle.rv_step.proofs.Kept.{both, not_true}
-use Rattle.rv_step.proofs.Runs.{same_some, step_back, after-add}
+use Rattle.std.proofs.lemmas.Bool.{false_from_ne_true, true≢false}
+use Rattle.std.proofs.lemmas.Option.{same_Some}
+use Rattle.rv_step.proofs.Runs.{step_back, after-add, spent_next}
 use Rattle.rv_step.proofs.Small.{step_is_small}
 use Rattle.executor.specs.Segments.{Limits, is_fault, is_done_at, done_in, fits, longest, segments, total}
 use Rattle.executor.specs.Laws.{AreLimits, AreLengths, SegmentsCover, DoneToOutcome}
-use Rattle.executor.proofs.Ordered.{length-ascending}
-use Rattle.executor.proofs.Cutting.{run_ready, before_end, spent_next, spent_grows, done_at_tells, done_at_from, done_in_tells, done_in_is, fits_from, longest_low, longest_some, segments_none, segments_some}
+use Rattle.page_core.proofs.Ascending.{length-ascending}
+use Rattle.executor.proofs.Cutting.{run_ready, before_end, spent_grows, done_at_tells, done_at_from, done_in_tells, done_in_is, fits_from, longest_low, longest_some, segments_none, segments_some}
 
 -- ---- one step fits into a segment
 spent_one : (s : State) → spent s 1 ≡ step_cost s
@@ -44,7 +45,7 @@ later l s k n t h low each j below =
 
 pub first_fits : (l : Limits) (s : State) (n : ℕ) → 0 < n → EachFits l s n → fits l s 1 ≡ true
 unfolding after
-first_fits l s n some each = let (u, here, one) = each 0 some in subst (λ (v : State). fits l v 1 ≡ true) (sym (same_some s u here)) one
+first_fits l s n some each = let (u, here, one) = each 0 some in subst (λ (v : State). fits l v 1 ≡ true) (sym (same_Some s u here)) one
 
 -- one segment, and what covers the rest
 one_more : (l : Limits) (most : ℕ) (s : State) (n : ℕ) → 0 < n → (k : ℕ) → longest l s n ≡ k → 0 < k → k ≤ n → Covers (segments l most (after s k) (n - k)) (n - k)
@@ -97,16 +98,16 @@ module _ (limit : ℕ) (s : State) (k : ℕ) (t : State) (reached : after s k �
   here_done : is_done_at limit (spent s k) (after s k) ≡ true → (spent s k + step_cost t ≤ limit) × (is_fault (step_of t) ≡ false)
   here_done h =
       let (u, there, cost, fine) = done_at_tells limit (spent s k) (after s k) h in
-      let same : u ≡ t = same_some u t (sym there ∙ reached) in
+      let same : u ≡ t = same_Some u t (sym there ∙ reached) in
       (subst (λ (v : State). spent s k + step_cost v ≤ limit) same cost, subst (λ (v : State). is_fault (step_of v) ≡ false) same fine)
 
   over : limit < spent s k + step_cost t → done_in limit s ≡ k
   over dear =
       done_in_is limit s k earlier_done
-      (not_true _ (λ h. let (cost, fine) = here_done h in omega (arith, dear, cost)))
+      (false_from_ne_true _ (λ h. let (cost, fine) = here_done h in omega (arith, dear, cost)))
 
   faulted : is_fault (step_of t) ≡ true → done_in limit s ≡ k
-  faulted bad = done_in_is limit s k earlier_done (not_true _ (λ h. let (cost, fine) = here_done h in both (is_fault (step_of t)) bad fine))
+  faulted bad = done_in_is limit s k earlier_done (false_from_ne_true _ (λ h. let (cost, fine) = here_done h in true≢false (sym bad ∙ fine)))
 
   halted : (code : ℕ) → step_of t ≡ Halted code → spent s k + step_cost t ≤ limit → done_in limit s ≡ k + 1
   unfolding after
@@ -122,12 +123,12 @@ module _ (limit : ℕ) (s : State) (k : ℕ) (t : State) (reached : after s k �
   by_event : (e : Event) (b : Bool) (o : Outcome) → step_of t ≡ e → ltb limit (spent s k + step_cost t) ≡ b → cond b (Some (OverLimit k)) (ends_with k t.pc e) ≡ Some o
       → done_in limit s ≡ steps_done k o
   by_event e true o is test h =
-      over (grind (arith, nat_tests)) ∙ ap (steps_done k) (same_some (OverLimit k) o h)
+      over (grind (arith, nat_tests)) ∙ ap (steps_done k) (same_Some (OverLimit k) o h)
   by_event (Went u) false o is test h = absurd (cc)
   by_event (Halted code) false o is test h =
-      halted code is (grind (arith, nat_tests)) ∙ ap (steps_done k) (same_some _ o h)
+      halted code is (grind (arith, nat_tests)) ∙ ap (steps_done k) (same_Some _ o h)
   by_event (Faulted fault) false o is test h =
-      faulted (ap is_fault is) ∙ ap (steps_done k) (same_some _ o h)
+      faulted (ap is_fault is) ∙ ap (steps_done k) (same_Some _ o h)
 
 pub done_to_outcome : DoneToOutcome
 done_to_outcome limit s o ends =

@@ -1,20 +1,20 @@
 -- How a run is cut: which of its steps are done, which of them fit, and the segments and seals one at a time. H is the digest function.
-use Rattle.std.proofs.Common.{◌≡◌, ◌⊎◌, inl, inr, ⊎_elim, ℕ, zero, suc, ◌+◌, ◌-◌, ◌<◌, ◌≤◌, Bool, true, false, cond, ◌&&◌, leb, eqb, List, [], ◌∷◌, ◌++◌, length, Option, Some, None, refl, sym, ap, ◌∙◌, subst, arith}
+use Rattle.std.proofs.Common.{◌≡◌, ◌⊎◌, inl, inr, ⊎_elim, ℕ, zero, suc, ◌+◌, ◌-◌, ◌<◌, ◌≤◌, Bool, true, false, cond, leb, eqb, List, [], ◌∷◌, ◌++◌, length, Option, Some, None, refl, sym, ap, ◌∙◌, subst, arith}
 use Rattle.std.proofs.lemmas.Bool.Decides.{nat_tests, eqb_tells, leb_tells}
 use Rattle.page_core.specs.Memory.{ascending}
 use Rattle.rv_step.specs.Machine.{State, step_of, step_cost}
-use Rattle.rv_step.specs.Runs.{after, at_some, spent, touched, pages_at}
+use Rattle.rv_step.specs.Runs.{after, spent, touched, pages_at}
 use Rattle.rv_step.specs.Laws.{IsReady}
-use Rattle.rv_step.proofs.Kept.{step_keeps, both}
-use Rattle.rv_step.proofs.Runs.{same_some, step_back, run_keeps, after-add}
+use Rattle.std.proofs.lemmas.Bool.{cond_both, true≢false, and_parts, leb-true, le-leb}
+use Rattle.rv_step.proofs.Kept.{step_keeps}
+use Rattle.std.proofs.lemmas.Option.{same_Some}
+use Rattle.rv_step.proofs.Runs.{step_back, run_keeps, after-add, spent_next}
 use Rattle.flat_machine.proofs.RunFeet.{some_cost}
 use Rattle.receipt_types.specs.Bundles.{item}
-use Rattle.executor.specs.Segments.{Limits, is_fault, is_done, is_done_at, done_among, done_in, fits, longest, segments, total}
+use Rattle.executor.specs.Segments.{Limits, is_fault, is_done, is_done_at, is_nth_done, greatest, done_in, fits, longest, segments, total}
 use Rattle.executor.specs.Proving.{seal_from, seals_from}
 use Rattle.executor.specs.Laws.{AreLengths}
 use Rattle.executor.proofs.Ordered.{ascending_grows}
-pub use Rattle.executor.proofs.Ordered.{ascending_has, ascending_same, ascending_twice, ascending_turned, ascending_added}
-pub use Rattle.seal_replay.proofs.Marked.{contains-append}
 
 -- ---- the steps of a run
 pub at_or_below : (k n : ℕ) → k ≤ n → (k < n) ⊎ (k ≡ n)
@@ -30,10 +30,6 @@ before_end s (suc n) z k h low =
 pub run_ready : (s : State) (n : ℕ) (t : State) → IsReady s → after s n ≡ Some t → IsReady t
 run_ready s n t = run_keeps IsReady (λ u v e. (step_keeps u v e).ready) s n t
 
-pub spent_next : (s : State) (n : ℕ) (t : State) → after s n ≡ Some t → spent s (suc n) ≡ spent s n + step_cost t
-unfolding spent
-spent_next s n t h = ap (λ (o : Option State). spent s n + at_some step_cost o) h
-
 -- with more steps no less is spent
 pub spent_grows : (s : State) (k n : ℕ) → k ≤ n → spent s k ≤ spent s n
 unfolding spent
@@ -48,6 +44,27 @@ spent_least s zero t h = omega arith
 spent_least s (suc n) t h =
     let (u, before, goes) = step_back s n t h in
     omega (arith, spent_least s n u before, spent_next s n u before, some_cost u)
+
+-- ---- the greatest number that passes a test
+greatest_most : (test : ℕ → Bool) (n : ℕ) → greatest test n ≤ n
+unfolding greatest
+greatest_most test zero = omega arith
+greatest_most test (suc n) = cond_both (test (suc n)) (suc n) (greatest test n) (λ m. m ≤ suc n) (λ _. omega arith) (λ _. omega (arith, greatest_most test n))
+
+greatest_passes : (test : ℕ → Bool) (n : ℕ) → (greatest test n ≡ 0) ⊎ (test (greatest test n) ≡ true)
+unfolding greatest
+greatest_passes test zero = inl refl
+greatest_passes test (suc n) =
+    cond_both (test (suc n)) (suc n) (greatest test n) (λ m. (m ≡ 0) ⊎ (test m ≡ true)) (λ e. inr e) (λ _. greatest_passes test n)
+
+greatest_least : (test : ℕ → Bool) (n k : ℕ) → k ≤ n → test k ≡ true → k ≤ greatest test n
+unfolding greatest
+greatest_least test zero k low h = omega arith
+greatest_least test (suc n) k low h =
+    cond_both (test (suc n)) (suc n) (greatest test n) (λ m. k ≤ m) (λ _. low)
+    (λ e. ⊎_elim
+    (λ (less : k < suc n). greatest_least test n k (omega arith) h)
+    (λ (same : k ≡ suc n). absurd (true≢false (sym h ∙ ap test same ∙ e))) (at_or_below k (suc n) low))
 
 -- ---- the steps that are done
 done_tells : (limit c : ℕ) (t : State) → is_done limit c t ≡ true → (c + step_cost t ≤ limit) × (is_fault (step_of t) ≡ false)
@@ -82,36 +99,19 @@ done_before limit s k n h low =
     done_at_from limit (spent s k) (after s k) u before (omega (arith, spent_next s k u before, spent_grows s (suc k) n (omega arith), cost)) (ap is_fault goes))
     (λ (same : k ≡ n). subst (λ (j : ℕ). is_done_at limit (spent s j) (after s j) ≡ true) (sym same) h) (at_or_below k n low)
 
-among_tells : (limit : ℕ) (s : State) (n k : ℕ) → k < done_among limit s n → is_done_at limit (spent s k) (after s k) ≡ true
-unfolding done_among
-among_tells limit s zero k low = absurd (omega arith)
-among_tells limit s (suc n) k low = go (is_done_at limit (spent s n) (after s n)) refl (λ less. among_tells limit s n k less) low
-  where
-    go : (b : Bool) → is_done_at limit (spent s n) (after s n) ≡ b → (k < done_among limit s n → is_done_at limit (spent s k) (after s k) ≡ true)
-        → k < cond b (suc n) (done_among limit s n) → is_done_at limit (spent s k) (after s k) ≡ true
-    go true e rest low = done_before limit s k n e (omega arith)
-    go false e rest low = rest low
-
-among_from : (limit : ℕ) (s : State) (n k : ℕ) → k < n → is_done_at limit (spent s k) (after s k) ≡ true → k < done_among limit s n
-unfolding done_among
-among_from limit s zero k low h = absurd (omega arith)
-among_from limit s (suc n) k low h =
-    ⊎_elim (λ (less : k < n). either (is_done_at limit (spent s n) (after s n)) (done_among limit s n) (among_from limit s n k less h))
-    (λ (same : k ≡ n). subst (λ (b : Bool). k < cond b (suc n) (done_among limit s n)) (sym (subst (λ (j : ℕ). is_done_at limit (spent s j) (after s j) ≡ true) same h)) low)
-    (at_or_below k n (omega arith))
-  where
-    either : (b : Bool) (m : ℕ) → k < m → k < cond b (suc n) m
-    either true m less = low
-    either false m less = less
-
 -- step k is among those that are done exactly where it is done
 pub done_in_tells : (limit : ℕ) (s : State) (k : ℕ) → k < done_in limit s → is_done_at limit (spent s k) (after s k) ≡ true
-done_in_tells limit s k low = among_tells limit s limit k low
+done_in_tells limit s k low =
+    ⊎_elim (λ none. absurd (omega (arith, low, none))) (from_last (done_in limit s) low) (greatest_passes (is_nth_done limit s) limit)
+  where
+    from_last : (n : ℕ) → k < n → is_nth_done limit s n ≡ true → is_done_at limit (spent s k) (after s k) ≡ true
+    from_last zero below h = absurd (omega arith)
+    from_last (suc n) below h = done_before limit s k n h (omega arith)
 
 pub done_in_from : (limit : ℕ) (s : State) (k : ℕ) → is_done_at limit (spent s k) (after s k) ≡ true → k < done_in limit s
 done_in_from limit s k h =
     let (t, there, cost, fine) = done_at_tells limit (spent s k) (after s k) h in
-    among_from limit s limit k (omega (arith, spent_least s k t there, some_cost t, cost)) h
+    omega (arith, greatest_least (is_nth_done limit s) limit (suc k) (omega (arith, spent_least s k t there, some_cost t, cost)) h)
 
 no_fewer : (limit : ℕ) (s : State) (n : ℕ) → ((k : ℕ) → k < n → is_done_at limit (spent s k) (after s k) ≡ true) → n ≤ done_in limit s
 no_fewer limit s zero each = omega arith
@@ -119,7 +119,7 @@ no_fewer limit s (suc m) each = omega (arith, done_in_from limit s m (each m (om
 
 no_more : (limit : ℕ) (s : State) (n : ℕ) → is_done_at limit (spent s n) (after s n) ≡ false → done_in limit s ≤ n
 no_more limit s n last =
-    ⊎_elim (λ t. absurd (both _ (done_in_tells limit s n (omega (arith, t.1))) last)) (λ t. omega (arith, t.1)) (leb_tells (suc n) (done_in limit s))
+    ⊎_elim (λ t. absurd (true≢false (sym (done_in_tells limit s n (omega (arith, t.1))) ∙ last))) (λ t. omega (arith, t.1)) (leb_tells (suc n) (done_in limit s))
 
 -- there are n of them where those before step n are done, and it isn't
 pub done_in_is : (limit : ℕ) (s : State) (n : ℕ) → ((k : ℕ) → k < n → is_done_at limit (spent s k) (after s k) ≡ true)
@@ -127,27 +127,16 @@ pub done_in_is : (limit : ℕ) (s : State) (n : ℕ) → ((k : ℕ) → k < n �
 done_in_is limit s n each last = omega (arith, no_fewer limit s n each, no_more limit s n last)
 
 -- ---- the steps that fit
-both_true : (a b : Bool) → (a && b) ≡ true → (a ≡ true) × (b ≡ true)
-both_true true true h = (refl, refl)
-both_true true false h = absurd (cc)
-both_true false b h = absurd (cc)
-
-low_of : (m n : ℕ) → leb m n ≡ true → m ≤ n
-low_of m n h = grind (arith, nat_tests)
-
-test_low : (m n : ℕ) → m ≤ n → leb m n ≡ true
-test_low m n h = grind (arith, nat_tests)
-
 -- what fits costs little enough and touches few enough pages
 pub fits_tells : (l : Limits) (s : State) (n : ℕ) → fits l s n ≡ true → (spent s n ≤ l.cycles) × (length (ascending (touched s n)) ≤ l.pages)
 unfolding fits
 fits_tells l s n h =
-    let (cost, pages) = both_true (leb (spent s n) l.cycles) (leb (length (ascending (touched s n))) l.pages) h in
-    (low_of (spent s n) l.cycles cost, low_of (length (ascending (touched s n))) l.pages pages)
+    let (cost, pages) = and_parts (leb (spent s n) l.cycles) (leb (length (ascending (touched s n))) l.pages) h in
+    (leb-true (spent s n) l.cycles cost, leb-true (length (ascending (touched s n))) l.pages pages)
 
 pub fits_from : (l : Limits) (s : State) (n : ℕ) → spent s n ≤ l.cycles → length (ascending (touched s n)) ≤ l.pages → fits l s n ≡ true
 unfolding fits
-fits_from l s n cost pages = rw (test_low (spent s n) l.cycles cost, test_low (length (ascending (touched s n))) l.pages pages) refl
+fits_from l s n cost pages = rw (le-leb (spent s n) l.cycles cost, le-leb (length (ascending (touched s n))) l.pages pages) refl
 
 touched_grows : (s : State) (n : ℕ) → length (ascending (touched s n)) ≤ length (ascending (touched s (suc n)))
 unfolding touched
@@ -171,47 +160,24 @@ fits_fewer l s k (suc n) low h =
 
 -- ---- the longest stretch
 pub longest_low : (l : Limits) (s : State) (n : ℕ) → longest l s n ≤ n
-unfolding longest
-longest_low l s zero = omega arith
-longest_low l s (suc n) = either (fits l s (suc n)) (longest l s n) (longest_low l s n)
-  where
-    either : (b : Bool) (m : ℕ) → m ≤ n → cond b (suc n) m ≤ suc n
-    either true m h = omega arith
-    either false m h = omega (arith, h)
+longest_low l s n = greatest_most (fits l s) n
 
 pub longest_fits : (l : Limits) (s : State) (n : ℕ) → fits l s (longest l s n) ≡ true
-unfolding longest
-longest_fits l s zero = fits_none l s
-longest_fits l s (suc n) = either (fits l s (suc n)) (longest l s n) refl (longest_fits l s n)
-  where
-    either : (b : Bool) (m : ℕ) → fits l s (suc n) ≡ b → fits l s m ≡ true → fits l s (cond b (suc n) m) ≡ true
-    either true m e h = e
-    either false m e h = h
+longest_fits l s n =
+    ⊎_elim (λ none. subst (λ (k : ℕ). fits l s k ≡ true) (sym none) (fits_none l s)) (λ h. h) (greatest_passes (fits l s) n)
 
 pub longest_some : (l : Limits) (s : State) (n : ℕ) → 0 < n → fits l s 1 ≡ true → 0 < longest l s n
-unfolding longest
-longest_some l s zero some one = absurd (omega arith)
-longest_some l s (suc zero) some one = rw one (omega arith)
-longest_some l s (suc (suc n)) some one = either (fits l s (suc (suc n))) (longest l s (suc n)) (longest_some l s (suc n) (omega arith) one)
-  where
-    either : (b : Bool) (m : ℕ) → 0 < m → 0 < cond b (suc (suc n)) m
-    either true m h = omega arith
-    either false m h = h
+longest_some l s n some one = omega (arith, greatest_least (fits l s) n 1 (omega (arith, some)) one)
 
 -- a stretch that fits is the longest of at most m steps where it has m, or one more doesn't fit
 pub longest_is : (l : Limits) (s : State) (n m : ℕ) → fits l s n ≡ true → n ≤ m → ((n ≡ m) ⊎ (fits l s (suc n) ≡ false)) → longest l s m ≡ n
-unfolding longest
-longest_is l s n zero fit low last = omega arith
-longest_is l s n (suc m) fit low last =
-    ⊎_elim
-    (λ (less : n < suc m).
-    let over : fits l s (suc n) ≡ false = ⊎_elim (λ (same : n ≡ suc m). absurd (omega (arith, less, same))) (λ h. h) last in
-    shorter (fits l s (suc m)) refl less over (longest_is l s n m fit (omega (arith, less)) (inr over)))
-    (λ (same : n ≡ suc m). ap (λ (b : Bool). cond b (suc m) (longest l s m)) (subst (λ (j : ℕ). fits l s j ≡ true) same fit) ∙ sym same) (at_or_below n (suc m) low)
+longest_is l s n m fit low last = omega (arith, greatest_least (fits l s) m n low fit, no_longer last)
   where
-    shorter : (b : Bool) → fits l s (suc m) ≡ b → n < suc m → fits l s (suc n) ≡ false → longest l s m ≡ n → cond b (suc m) (longest l s m) ≡ n
-    shorter true e less over h = absurd (both (fits l s (suc n)) (fits_fewer l s (suc n) (suc m) (omega (arith, less)) e) over)
-    shorter false e less over h = h
+    no_longer : (n ≡ m) ⊎ (fits l s (suc n) ≡ false) → longest l s m ≤ n
+    no_longer (inl same) = omega (arith, longest_low l s m, same)
+    no_longer (inr over) =
+        ⊎_elim (λ t. absurd (true≢false (sym (fits_fewer l s (suc n) (longest l s m) t.1 (longest_fits l s m)) ∙ over))) (λ t. omega (arith, t.1))
+        (leb_tells (suc n) (longest l s m))
 
 -- ---- the segments, one at a time
 pub segments_none : (l : Limits) (most : ℕ) (o : Option State) → segments l most o 0 ≡ []
@@ -232,7 +198,7 @@ segments_some l most s n some =
 pub item-seals_from : (H : List ℕ → List ℕ) (s : State) (given : List ℕ) (n : ℕ) (rest : List ℕ) (t : State) → after s (total given) ≡ Some t
     → item (seals_from H (Some s) (given ++ n ∷ rest)) (length given) ≡ Some (seal_from H t n)
 unfolding after
-item-seals_from H s [] n rest t h = ap (λ (u : State). Some (seal_from H u n)) (same_some s t h)
+item-seals_from H s [] n rest t h = ap (λ (u : State). Some (seal_from H u n)) (same_Some s t h)
 item-seals_from H s (m ∷ given) n rest t h =
     let (v, reached) = before_end s (m + total given) t m h (omega arith) in
     ap (λ (o : Option State). item (seals_from H o (given ++ n ∷ rest)) (length given)) reached

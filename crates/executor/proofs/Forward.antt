@@ -9,46 +9,36 @@ use Rattle.host_calls.specs.declared.call.Call.{Call}
 use Rattle.host_calls.specs.declared.call.Call.TheVariants.{Halt, Read, Commit, Assume}
 use Rattle.rv_step.specs.declared.act.Act.{Act}
 use Rattle.rv_step.specs.declared.act.Act.TheVariants.{Sets, Loads, Stores, Does, Faults}
-use Rattle.page_core.specs.Memory.{top, bytes, contains, Within}
-use Rattle.page_core.proofs.Listed.{or_split}
+use Rattle.page_core.specs.Memory.{top, bytes, Within}
+
+use Rattle.std.specs.Prelude.{Contains}
+use Rattle.rv_step.proofs.Steps.{all_open}
 use Rattle.host_calls.specs.Calls.{takes}
-use Rattle.rv_step.specs.Machine.{State, Went, Halted, Faulted, act_of_word, supplied, act, called, done, step_of, foot_of, first_closed}
+use Rattle.rv_step.specs.Machine.{State, Went, Halted, Faulted, act_of_word, supplied, act, called, done, step_of, foot_of}
 use Rattle.rv_step.specs.Runs.{after}
 use Rattle.rv_step.specs.Laws.{Beside, Alike}
 use Rattle.rv_step.proofs.Feet.{code_in_foot}
 use Rattle.rv_step.proofs.Frame.{range_same, one_page, act_in, act_out}
-use Rattle.rv_step.proofs.Runs.{same_some, step_back}
+use Rattle.std.proofs.lemmas.Option.{same_Some}
+use Rattle.rv_step.proofs.Runs.{step_back}
 use Rattle.flat_machine.proofs.RunFeet.{none_closed}
 use Rattle.executor.specs.Proving.{taken, read_by, read_at, used}
 
 -- ---- footprints lie below 2 ^ 28
-same_number : (p q : ℕ) → IsTrue (eqb p q) → q ≡ p
-same_number p q h = grind (arith, nat_tests)
-
--- where none is closed each is open
-each_open : (opens : ℕ → Bool) (ps : List ℕ) → first_closed opens ps ≡ None → (p : ℕ) → IsTrue (contains ps p) → IsTrue (opens p)
-each_open opens [] none p h = absurd (cc)
-each_open opens (q ∷ ps) none p h = go (opens q) refl none (λ rest. each_open opens ps rest p)
-  where
-    go : (b : Bool) → opens q ≡ b → cond (not b) (Some q) (first_closed opens ps) ≡ None
-        → (first_closed opens ps ≡ None → IsTrue (contains ps p) → IsTrue (opens p)) → IsTrue (opens p)
-    go true e none rest = ⊎_elim (λ t. ap opens (sym (same_number p q t)) ∙ e) (rest none) (or_split (eqb p q) (contains ps p) h)
-    go false e none rest = absurd (cc)
-
-pub foot_in : (s : State) → s.pc % 4 ≡ 0 → (p : ℕ) → IsTrue (contains (foot_of s) p) → p < 262144
-foot_in s aligned p h = low (each_open (λ page. ltb page 262144) (foot_of s) (none_closed s aligned) p h)
+pub foot_in : (s : State) → s.pc % 4 ≡ 0 → (p : ℕ) → Contains (foot_of s) p → p < 262144
+foot_in s aligned p h = low (all_open (λ page. ltb page 262144) (foot_of s) (none_closed s aligned) p h)
   where
     low : IsTrue (ltb p 262144) → p < 262144
     low e = grind (arith, nat_tests)
 
 -- ---- what an event tells
-went : (s t : State) → Went s ≡ Went t → s ≡ t
+pub went : (s t : State) → Went s ≡ Went t → s ≡ t
 went s t e = cc
 
-no_halt : (code : ℕ) (t : State) → Halted code ≡ Went t → ⊥
+pub no_halt : (code : ℕ) (t : State) → Halted code ≡ Went t → ⊥
 no_halt code t e = cc
 
-no_fault : (f : Fault) (t : State) → Faulted f ≡ Went t → ⊥
+pub no_fault : (f : Fault) (t : State) → Faulted f ≡ Went t → ⊥
 no_fault f t e = cc
 
 -- ---- a step with the words and pages of another does the same
@@ -67,7 +57,7 @@ module _ (pages : List ℕ) (more : Beside) (u v : State) (aligned : u.pc % 4 �
   fetch_back : u.pc < top → bytes v.memory u.pc 4 ≡ bytes u.memory u.pc 4
   fetch_back h =
       let low : v.pc < top = let e = same.pc in omega (arith, e) in
-      let code : IsTrue (contains pages (u.pc / 1024)) = subst (λ (p : ℕ). IsTrue (contains pages (p / 1024))) same.pc (shown (v.pc / 1024) (code_in_foot v low)) in
+      let code : Contains pages (u.pc / 1024) = subst (λ (p : ℕ). Contains pages (p / 1024)) same.pc (shown (v.pc / 1024) (code_in_foot v low)) in
       sym (range_same pages more u v same u.pc 4 (grind (arith, nat_tests)) (one_page u.pc pages aligned code))
 
   pub act_back : ((call : Call) → act v ≡ Does call → takes call ≤ length u.words) → ((f : Fault) → act v ≡ Faults f → ⊥) → act u ≡ act v
@@ -126,7 +116,7 @@ step_words s t e = done_words (act s) s t e
 
 pub run_words : (s : State) (n : ℕ) (t : State) → after s n ≡ Some t → s.words ≡ used s n ++ t.words
 unfolding used after
-run_words s zero t h = ap (λ (u : State). u.words) (same_some s t h)
+run_words s zero t h = ap (λ (u : State). u.words) (same_Some s t h)
 run_words s (suc n) t h =
     let (u, before, goes) = step_back s n t h in
     run_words s n u before

@@ -2,16 +2,17 @@
 use Rattle.std.proofs.Common.{◌≡◌, ⊎_elim, ℕ, zero, suc, ◌+◌, ◌-◌, ◌*◌, ◌^◌, ◌<◌, ◌≤◌, true, List, [], ◌∷◌, ◌++◌, length, drop, Option, Some, None, IsTrue, refl, sym, ◌∙◌, subst, arith, length-append, length-take}
 use Rattle.std.specs.Int.{w32, to_le_bytes}
 use Rattle.std.specs.List.{flat_map}
-use Rattle.std.specs.Prelude.{All}
+use Rattle.std.specs.Prelude.{All, Contains}
 use Rattle.std.proofs.lemmas.Bool.Decides.{eqb_tells}
-use Rattle.std.proofs.lemmas.List.Elements.{All-nil, All-cons, All-tail, All-append, All-take}
+use Rattle.std.proofs.lemmas.List.Elements.{All-nil, All-cons, All-tail, All-append, All-take, Contains-append_cases}
 use Rattle.digest_core.specs.Digests.{IsDigest}
 use Rattle.page_core.specs.Images.{Image, IsImage}
-use Rattle.page_core.specs.Memory.{top, contains, ascending}
+use Rattle.page_core.specs.Memory.{top, ascending}
 use Rattle.page_core.specs.Memories.{page_of}
 use Rattle.page_core.specs.Pages.{ArePages}
 use Rattle.page_core.proofs.Bytes.{length-bytes, words-small}
-use Rattle.page_core.proofs.Listed.{or_split, or_right, tells_contains}
+use Rattle.page_core.proofs.Listed.{Contains-none, Contains-head, Contains-tail}
+use Rattle.page_core.proofs.Ascending.{Contains-from_ascending}
 use Rattle.host_calls.specs.declared.call.Call.TheVariants.{Halt, Read, Commit, Assume}
 use Rattle.part_tree.specs.Canonical.{IsCanonical}
 use Rattle.part_tree.proofs.Formed.{canonical_form}
@@ -19,21 +20,20 @@ use Rattle.rv_step.specs.declared.act.Act.{Act}
 use Rattle.rv_step.specs.declared.act.Act.TheVariants.{Sets, Loads, Stores, Does, Faults}
 use Rattle.rv_step.specs.Acts.{IsMade}
 use Rattle.rv_step.specs.Laws.{IsReady}
-use Rattle.rv_step.specs.Machine.{State, act, full, full_of, cost_of_act, step_cost}
+use Rattle.rv_step.specs.Machine.{State, act, full, cost_of_act, step_cost}
 use Rattle.rv_step.specs.Runs.{start, after, at_some, spent, touched, pages_at}
 use Rattle.rv_step.proofs.Feet.{foot_has_registers}
 use Rattle.rv_step.proofs.Kept.{step_keeps}
-use Rattle.rv_step.proofs.Made.{bytes_are, put_small}
-use Rattle.rv_step.proofs.Runs.{run_keeps}
+use Rattle.rv_step.proofs.Made.{bytes_are, put_small, full_pages}
+use Rattle.rv_step.proofs.Runs.{run_keeps, spent_next}
 use Rattle.flat_machine.proofs.RunFeet.{some_cost}
 use Rattle.receipt_types.specs.Limits.{SealLimits, AllSealLimits}
 use Rattle.seal_replay.proofs.Chains.{start_ready}
-use Rattle.seal_replay.proofs.Marked.{contains-append}
 use Rattle.executor.specs.Segments.{Limits, done_in, fits, longest, segments}
 use Rattle.executor.specs.Proving.{taken, read_by, read_at, used, seal_from, seals_from}
 use Rattle.executor.specs.Laws.{AreLimits, CutsKeepLimits}
-use Rattle.executor.proofs.Ordered.{ascending_has, ascending_some}
-use Rattle.executor.proofs.Cutting.{run_ready, spent_next, spent_least, fits_tells, longest_low, longest_fits, longest_some, segments_none, segments_some}
+use Rattle.executor.proofs.Ordered.{ascending_some}
+use Rattle.executor.proofs.Cutting.{run_ready, spent_least, fits_tells, longest_low, longest_fits, longest_some, segments_none, segments_some}
 use Rattle.executor.proofs.Covered.{EachFits, later, first_fits, each_done_fits}
 use Rattle.executor.proofs.Forward.{foot_in, step_words}
 use Rattle.executor.proofs.Replays.{touched_in}
@@ -89,31 +89,21 @@ used_words s (suc n) h = All-append (λ (word : ℕ). word < 2 ^ 32) (used s n) 
     read_at_words None there = All-nil (λ (word : ℕ). word < 2 ^ 32)
 
 -- ---- pages
-full_small : (s : State) → IsMade s → (a : ℕ) → full s a < 256
-unfolding full_of
-full_small s made a = put_small s.memory (top + 4) (flat_map (to_le_bytes w32) (drop 1 s.x)) a (made.memory a) (words-small (drop 1 s.x))
-
-full_pages : (s : State) → IsMade s → ArePages (page_of (full s))
-full_pages s made i = (length-bytes (full s) (1024 * i) 1024, bytes_are (full s) (1024 * i) 1024 (full_small s made))
-
-pub touched_low : (s : State) (n : ℕ) → IsReady s → (p : ℕ) → IsTrue (contains (touched s n) p) → p < 262144
+pub touched_low : (s : State) (n : ℕ) → IsReady s → (p : ℕ) → Contains (touched s n) p → p < 262144
 unfolding touched
-touched_low s zero ready p h = absurd (cc)
+touched_low s zero ready p h = absurd (Contains-none p h)
 touched_low s (suc n) ready p h =
-    ⊎_elim (touched_low s n ready p) (foot_low (after s n) refl)
-    (or_split (contains (touched s n) p) (contains (pages_at (after s n)) p) (sym (contains-append (touched s n) (pages_at (after s n)) p) ∙ h))
+    ⊎_elim (touched_low s n ready p) (foot_low (after s n) refl) (Contains-append_cases (touched s n) (pages_at (after s n)) p h)
   where
-    foot_low : (o : Option State) → after s n ≡ o → IsTrue (contains (pages_at o) p) → p < 262144
+    foot_low : (o : Option State) → after s n ≡ o → Contains (pages_at o) p → p < 262144
     foot_low (Some t) there e = foot_in t (run_ready s n t ready there).aligned p e
-    foot_low None there e = absurd (cc)
+    foot_low None there e = absurd (Contains-none p e)
 
-pub all_low : (ps : List ℕ) → ((p : ℕ) → IsTrue (contains ps p) → p < 262144) → All (λ page. page < 262144) ps
+pub all_low : (ps : List ℕ) → ((p : ℕ) → Contains ps p → p < 262144) → All (λ page. page < 262144) ps
 all_low [] h = All-nil (λ (page : ℕ). page < 262144)
-all_low (p ∷ ps) h =
-    All-cons (λ (page : ℕ). page < 262144) p ps (h p (tells_contains (p ∷ ps) p (0, omega arith, refl)))
-    (all_low ps (λ q e. h q (or_right _ (contains ps q) e)))
+all_low (p ∷ ps) h = All-cons (λ (page : ℕ). page < 262144) p ps (h p (Contains-head p p ps refl)) (all_low ps (λ q e. h q (Contains-tail q p ps e)))
 
-pub touched_registers : (s : State) (n : ℕ) → 0 < n → IsTrue (contains (touched s n) 262143)
+pub touched_registers : (s : State) (n : ℕ) → 0 < n → Contains (touched s n) 262143
 unfolding after
 touched_registers s n some = touched_in s n 0 s some refl 262143 (foot_has_registers s)
 
@@ -129,7 +119,7 @@ module _ (H : List ℕ → List ℕ) (is_digest : (x : List ℕ) → IsDigest (H
   canonical s n ready made some few =
       let bound : l.pages ≤ 4096 = are.most_pages in
       canonical_form H (page_of (full s)) (ascending (touched s n)) is_digest (full_pages s made)
-      (all_low (ascending (touched s n)) (λ p h. touched_low s n ready p (sym (ascending_has (touched s n) p) ∙ h)))
+      (all_low (ascending (touched s n)) (λ p h. touched_low s n ready p (Contains-from_ascending (touched s n) p h)))
       (ascending_some (touched s n) 262143 (touched_registers s n some)) (omega (arith, few, bound))
 
   seal_limits : (s : State) (n : ℕ) → IsReady s → IsMade s → AreWords s.words → 0 < n → fits l s n ≡ true → n ≤ spent s n → SealLimits (seal_from H s n)

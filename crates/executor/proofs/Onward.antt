@@ -6,7 +6,8 @@ use Rattle.host_calls.specs.Meters.{Metered, unused}
 use Rattle.rv_step.specs.Machine.{State}
 use Rattle.rv_step.specs.Runs.{start, after, spent, touched, IsOutcome}
 use Rattle.rv_step.specs.declared.outcome.Outcome.{Outcome}
-use Rattle.rv_step.proofs.Runs.{same_some, after-add}
+use Rattle.std.proofs.lemmas.Option.{same_Some}
+use Rattle.rv_step.proofs.Runs.{after-add}
 use Rattle.flat_machine.specs.Going.{state_of, Stands as IsRun}
 use Rattle.executor.specs.Segments.{done_in, segments, lengths, total}
 use Rattle.executor.specs.Cutting.{Cutting, HasOutcome, IsUnderWay, IsOver, Stands, IsWhole, IsCutting}
@@ -30,7 +31,7 @@ over c o told none image words stands = go stands.segment
         ∙ ap (λ (ns : List ℕ). u.given ++ ns) (segments_none c.limits (done_in c.limits.limit (start image words) - c.number) (Some u.s))
         ∙ append-nil u.given in
         (sym u.number ∙ ap length (sym cuts), all.0)
-    go (inr o') = (o'.number, subst (λ (t : Outcome). IsOutcome (start image words) c.limits.limit t) (same_some _ _ (sym o'.told ∙ told)) o'.ends)
+    go (inr o') = (o'.number, subst (λ (t : Outcome). IsOutcome (start image words) c.limits.limit t) (same_Some _ _ (sym o'.told ∙ told)) o'.ends)
 
 -- a segment that is whole and has no step has an outcome
 pub has_ended : (r : State) (c : Cutting) (segment : IsUnderWay r c ⊎ IsOver r c) → IsWhole r c segment → c.steps ≡ 0 → (o : Outcome) × (c.outcome ≡ Some o)

@@ -1,5 +1,6 @@
 -- A seal that is made of a stretch of the run replays without a stop and ends as the stretch does. H is the digest function.
-use Rattle.std.proofs.Common.{◌≡◌, ⊎_elim, ℕ, zero, suc, ◌+◌, ◌-◌, ◌<◌, ◌≤◌, Bool, true, false, cond, not, eqb, List, [], ◌∷◌, ◌++◌, length, take, Option, Some, None, option_and_then, IsTrue, refl, sym, ap, ap₂, ◌∙◌, subst, arith, length-append, append-nil}
+use Rattle.std.proofs.Common.{◌≡◌, ⊎_elim, ℕ, zero, suc, ◌+◌, ◌-◌, ◌<◌, ◌≤◌, Bool, true, false, cond, not, eqb, List, [], ◌∷◌, ◌++◌, length, take, Option, Some, None, option_and_then, refl, sym, ap, ap₂, ◌∙◌, subst, arith, length-append, append-nil}
+use Rattle.seal_replay.proofs.Chains.{halted_not_faulted}
 use Rattle.std.specs.Option.{option_or}
 use Rattle.std.proofs.lemmas.Bool.Decides.{nat_tests}
 use Rattle.std.proofs.lemmas.List.{length-take-le}
@@ -8,14 +9,17 @@ use Rattle.rv_isa.specs.declared.fault.Fault.TheVariants.{InputEnd}
 use Rattle.rv_isa.specs.Registers.{AreRegisters}
 use Rattle.host_calls.specs.declared.call.Call.{Call}
 use Rattle.host_calls.specs.Calls.{takes}
-use Rattle.page_core.specs.Memory.{contains, ascending, Within, Agree as AgreeBytes}
+use Rattle.page_core.specs.Memory.{is_among, ascending, Within, Agree as AgreeBytes}
 use Rattle.page_core.specs.Memories.{page_of, flat}
-use Rattle.page_core.proofs.Listed.{contains_tells, tells_contains, contains-left, contains-right}
+use Rattle.page_core.proofs.Listed.{Contains-head, Contains-tail, is_among-from_Contains}
+use Rattle.page_core.proofs.Ascending.{Contains-ascending, Contains-from_ascending}
+use Rattle.std.specs.Prelude.{Contains}
+use Rattle.std.proofs.lemmas.List.Elements.{Contains-append_left, Contains-append_right}
 use Rattle.part_tree.specs.Part.{Part, Agree, opened, fill, part_of}
 use Rattle.part_tree.proofs.Asked.{opened_asked, asked_opened}
 use Rattle.part_tree.proofs.Made.{part_agrees}
 use Rattle.part_tree.proofs.Shown.{tree_shows}
-use Rattle.part_tree.proofs.Splits.{both_none}
+use Rattle.page_core.proofs.Options.{both_none}
 use Rattle.rv_step.specs.declared.act.Act.{Act}
 use Rattle.rv_step.specs.declared.act.Act.TheVariants.{Does, Faults}
 use Rattle.rv_step.specs.Machine.{State, Event, Went, Halted, Faulted, act, step_of, foot_of, full, full_of, first_closed}
@@ -24,7 +28,8 @@ use Rattle.rv_step.specs.Laws.{IsReady, Beside, Alike, AlikeEvents}
 use Rattle.rv_step.proofs.Feet.{foot_has_registers}
 use Rattle.rv_step.proofs.Frame.{IsSupplied, supplied_act, foot_same, step_reads_its_foot}
 use Rattle.rv_step.proofs.Kept.{step_keeps}
-use Rattle.rv_step.proofs.Runs.{same_some, step_back, step_on, not_ended, after-add}
+use Rattle.std.proofs.lemmas.Option.{same_Some}
+use Rattle.rv_step.proofs.Runs.{step_back, step_on, not_ended, after-add}
 use Rattle.claim_types.specs.declared.claim.Exit.{Exit}
 use Rattle.claim_types.specs.declared.claim.Exit.TheVariants.{Split, Halted as HaltedWith}
 use Rattle.receipt_types.specs.Seals.{Seal}
@@ -33,7 +38,6 @@ use Rattle.seal_replay.specs.declared.stop.ReplayStop.TheVariants.{WordsLeft, En
 use Rattle.seal_replay.specs.Laws.{beside}
 use Rattle.seal_replay.proofs.Registers.{registers_shown, full_shown}
 use Rattle.executor.specs.Proving.{taken, read_by, read_at, used, seal_from}
-use Rattle.executor.proofs.Ordered.{ascending_has}
 use Rattle.executor.proofs.Cutting.{at_or_below, before_end, run_ready}
 use Rattle.executor.proofs.Forward.{foot_in, act_back, act_faults, step_faults, step_words, run_words, halt_takes}
 
@@ -55,10 +59,7 @@ went_not_fault : (s w : State) (f : Fault) → step_of s ≡ Went w → act s �
 went_not_fault s w f goes e = not_ended s w f goes (act_faults s f e)
 
 halt_not_fault : (s : State) (code : ℕ) (f : Fault) → step_of s ≡ Halted code → act s ≡ Faults f → ⊥
-halt_not_fault s code f stops e = clash code f (sym stops ∙ act_faults s f e)
-  where
-    clash : (code : ℕ) (f : Fault) → Halted code ≡ Faulted f → ⊥
-    clash code f e = cc
+halt_not_fault s code f stops e = halted_not_faulted code f (sym stops ∙ act_faults s f e)
 
 like_went_back : (pages : List ℕ) (more : Beside) (w : State) (e : Event) → AlikeEvents pages more e (Went w) → (t : State) × (e ≡ Went t) × Alike pages more t w
 like_went_back pages more w (Went t) h = (t, refl, h)
@@ -105,7 +106,7 @@ module _ (pages : List ℕ) (more : Beside) (e s : State) (ready : IsReady e) (s
   -- the replay is where the run is
   run_forward : (k : ℕ) → k ≤ n → (v : State) → after s k ≡ Some v → (t : State) × (after e k ≡ Some t) × Alike pages more t v × IsReady t
   unfolding after
-  run_forward zero low v h = (e, refl, subst (λ (w : State). Alike pages more e w) (same_some s v h) same, ready)
+  run_forward zero low v h = (e, refl, subst (λ (w : State). Alike pages more e w) (same_Some s v h) same, ready)
   run_forward (suc k) low v h =
       let (w, before, on) = step_back s k v h in
       let (t, there, like, fit) = run_forward k (omega arith) w before in
@@ -135,22 +136,19 @@ open_step : (b : Bool) (q : ℕ) (o : Option ℕ) → b ≡ true → o ≡ None 
 open_step true q o e h = h
 open_step false q o e h = absurd (cc)
 
-own : (p : ℕ) (ps : List ℕ) → IsTrue (contains (p ∷ ps) p)
-own p ps = tells_contains (p ∷ ps) p (0, omega arith, refl)
-
-all_found : (known pages : List ℕ) → ((p : ℕ) → IsTrue (contains pages p) → IsTrue (contains known p)) → first_closed (contains known) pages ≡ None
+all_found : (known pages : List ℕ) → Within pages known → first_closed (is_among known) pages ≡ None
 all_found known [] h = refl
 all_found known (p ∷ pages) h =
-    open_step (contains known p) p (first_closed (contains known) pages) (h p (own p pages))
-    (all_found known pages (λ q c. h q (contains-right (p ∷ []) pages q c)))
+    open_step (is_among known p) p (first_closed (is_among known) pages) (is_among-from_Contains known p (h p (Contains-head p p pages refl)))
+    (all_found known pages (λ q c. h q (Contains-tail q p pages c)))
 
-pub touched_in : (s : State) (n k : ℕ) (v : State) → k < n → after s k ≡ Some v → (p : ℕ) → IsTrue (contains (foot_of v) p) → IsTrue (contains (touched s n) p)
+pub touched_in : (s : State) (n k : ℕ) (v : State) → k < n → after s k ≡ Some v → (p : ℕ) → Contains (foot_of v) p → Contains (touched s n) p
 unfolding touched
 touched_in s zero k v low h p c = absurd (omega arith)
 touched_in s (suc n) k v low h p c =
     ⊎_elim
-    (λ (less : k < n). contains-left (touched s n) (pages_at (after s n)) p (touched_in s n k v less h p c))
-    (λ (same : k ≡ n). contains-right (touched s n) (pages_at (after s n)) p (subst (λ (o : Option State). IsTrue (contains (pages_at o) p)) (sym h ∙ ap (after s) same) c))
+    (λ (less : k < n). Contains-append_left (touched s n) (pages_at (after s n)) p (touched_in s n k v less h p c))
+    (λ (same : k ≡ n). Contains-append_right (touched s n) (pages_at (after s n)) p (subst (λ (o : Option State). Contains (pages_at o) p) (sym h ∙ ap (after s) same) c))
     (at_or_below k n (omega arith))
 
 pub record Replayed (H : List ℕ → List ℕ) (s : State) (n : ℕ) (exit : Exit) (z : State) : Type 0 where
@@ -180,15 +178,13 @@ module _ (H : List ℕ → List ℕ) (s : State) (n : ℕ) (ready : IsReady s) (
   feet k v low h p c =
       let fit : IsReady v = run_ready s k v ready h in
       let small : p < 262144 = foot_in v fit.aligned p c in
-      tells_contains pages p (asked_opened H (page_of (full s)) (ascending (touched s n)) 18 0 p (contains_tells (ascending (touched s n)) p (ascending_has (touched s n) p ∙ touched_in s n k v low h p c), omega (arith, small)))
+      asked_opened H (page_of (full s)) (ascending (touched s n)) 18 0 p (Contains-ascending (touched s n) p (touched_in s n k v low h p c), omega (arith, small))
 
   -- and no other page is
-  opened_touched : (p : ℕ) → IsTrue (contains pages p) → IsTrue (contains (touched s n) p)
-  opened_touched p c =
-      sym (ascending_has (touched s n) p)
-      ∙ tells_contains (ascending (touched s n)) p (opened_asked H (page_of (full s)) (ascending (touched s n)) 18 0 p (contains_tells pages p c)).0
+  opened_touched : Within pages (touched s n)
+  opened_touched p c = Contains-from_ascending (touched s n) p (opened_asked H (page_of (full s)) (ascending (touched s n)) 18 0 p c).0
 
-  pub opens_registers : IsTrue (contains pages 262143)
+  pub opens_registers : Contains pages 262143
   unfolding after
   opens_registers = feet 0 s some_steps refl 262143 (foot_has_registers s)
 
@@ -225,13 +221,13 @@ module _ (H : List ℕ → List ℕ) (s : State) (n : ℕ) (ready : IsReady s) (
       both_none (first_below (step_stop seal) n) _ (below_all (step_stop seal) n steps)
       (both_none (option_and_then words_stop (ending seal)) _ (ap (option_and_then words_stop) ends ∙ words_none exit t (no_words_left t z words))
       (ap idle_stop
-      (all_found (touched (enter seal) n) pages (λ p c. subst (λ (ps : List ℕ). IsTrue (contains ps p)) (sym pages_same) (opened_touched p c)))))
+      (all_found (touched (enter seal) n) pages (λ p c. subst (λ (ps : List ℕ). Contains ps p) (sym pages_same) (opened_touched p c)))))
 
   event_none : (k : ℕ) (t : State) → after (enter seal) k ≡ Some t → Within (foot_of t) pages → event_stop n k (step_of t) ≡ None → step_stop seal k ≡ None
   unfolding step_stop
   event_none k t there within event =
-      ap (option_and_then (stop_at (contains pages) n k)) there
-      ∙ both_none (page_stop k (first_closed (contains pages) (foot_of t))) (event_stop n k (step_of t)) (ap (page_stop k) (all_found pages (foot_of t) within)) event
+      ap (option_and_then (stop_at (is_among pages) n k)) there
+      ∙ both_none (page_stop k (first_closed (is_among pages) (foot_of t))) (event_stop n k (step_of t)) (ap (page_stop k) (all_found pages (foot_of t) within)) event
 
   -- a step before the last
   module _ (m : ℕ) (z : State) (goes : after s m ≡ Some z) (up_to : m ≤ n) (supplied : s.words ≡ used s n ++ z.words) where

@@ -1,14 +1,13 @@
 -- The seal of a segment that is whole. H is the digest function.
-use Rattle.std.proofs.Common.{◌≡◌, ◌⊎◌, inl, inr, ℕ, zero, suc, ◌+◌, ◌-◌, ◌%◌, ◌^◌, ◌<◌, ◌≤◌, true, false, List, [], ◌∷◌, ◌++◌, length, take, drop, Option, Some, None, IsTrue, refl, sym, ap, ap₂, ◌∙◌, subst, arith, length-append, append-nil, append_assoc, eqb, cond}
-use Rattle.std.specs.Prelude.{All, unwrap_or}
+use Rattle.std.proofs.Common.{◌≡◌, ◌⊎◌, inl, inr, ℕ, zero, suc, ◌+◌, ◌-◌, ◌%◌, ◌^◌, ◌<◌, ◌≤◌, List, [], ◌∷◌, ◌++◌, length, take, drop, Option, Some, None, refl, sym, ap, ap₂, ◌∙◌, subst, arith, length-append, append-nil, append_assoc}
+use Rattle.std.specs.Prelude.{All, Contains}
 use Rattle.page_core.specs.Images.{Image}
-use Rattle.page_core.specs.Memory.{ascending, contains}
+use Rattle.page_core.specs.Memory.{ascending}
 use Rattle.page_core.specs.Memories.{page_of}
-use Rattle.page_core.specs.Stored.{Stored, IsStoredFrom, stored_at, stored_pages, memory_of}
+use Rattle.page_core.specs.Stored.{Stored, IsStoredFrom, stored_pages, memory_of}
 use Rattle.page_core.proofs.Bytes.{page_same, bytes_hold_pages}
-use Rattle.page_core.proofs.Listed.{or_right, tells_contains}
-use Rattle.page_core.specs.Pages.{IsPage, ArePages, zero_page}
-use Rattle.page_tree.proofs.Held.{zeros_are}
+use Rattle.page_core.proofs.Listed.{Contains-head, Contains-tail}
+use Rattle.page_core.proofs.Zeros.{pages_are}
 use Rattle.part_tree.specs.Part.{Part, part_of}
 use Rattle.part_tree.specs.Canonical.{IsCanonical}
 use Rattle.page_tree.specs.Grown.{AscendFrom}
@@ -26,8 +25,9 @@ use Rattle.seal_replay.specs.Replay.{stop_of}
 use Rattle.executor.specs.Segments.{done_in, segments, lengths}
 use Rattle.executor.specs.Proving.{read_by, read_at, used, seal_from, seals_from, cut_seals, Ends}
 use Rattle.executor.specs.Cutting.{Beginning, Cutting, BeginsAt, IsBegun, IsUnderWay, IsOver, Stands, IsLongest, IsWhole, IsCutting, IsCut}
-use Rattle.executor.proofs.Cutting.{run_ready, before_end, fits_tells, segments_some, item-seals_from, ascending_has}
-use Rattle.executor.proofs.Ordered.{Ascend, ascends, ascending_some}
+use Rattle.executor.proofs.Cutting.{run_ready, before_end, fits_tells, segments_some, item-seals_from}
+use Rattle.executor.proofs.Ordered.{ascending_some}
+use Rattle.page_core.proofs.Ascending.{Ascend, ascends, Contains-from_ascending}
 use Rattle.executor.proofs.Limited.{used_few, steps_cost, touched_low, touched_registers}
 use Rattle.executor.proofs.Claimed.{stretches_replay}
 use Rattle.executor.proofs.Forward.{run_words, halt_takes}
@@ -98,23 +98,17 @@ words_read g image words run b n s reached left read is =
     let parts : g.read ≡ earlier ++ used s n = append-left g.read g.words (earlier ++ used s n) g.words all (omega (arith, sizes)) in
     ap₂ (λ (n : ℕ) (ws : List ℕ). drop n ws) is parts ∙ drop-append earlier (used s n)
 
--- each page of a stored memory has its bytes
-pages_stored : (t : Stored) (least : ℕ) → IsStoredFrom least t → ArePages (stored_pages t)
-pages_stored [] least are n = zeros_are
-pages_stored (p ∷ ps) least are n =
-    elim (eqb n p.0) as (λ b. IsPage (unwrap_or (cond b (Some p.1) (stored_at ps n)) zero_page)) [ true ↦ are.2 | false ↦ pages_stored ps (p.0 + 1) are.3 n ]
-
 -- the tree of a stored memory is that of the state whose bytes it has
 pub tree_of : (H : List ℕ → List ℕ) (t : Stored) (s : State) (pages : List ℕ) → IsStoredFrom 0 t → ((a : ℕ) → memory_of t a ≡ full s a) → part_of H (stored_pages t) pages 18 0 ≡ part_of H (page_of (full s)) pages 18 0
 tree_of H t s pages are same =
     same_part H (page_of (full s)) (stored_pages t) pages 18 0
-    (λ page below. sym (bytes_hold_pages (stored_pages t) page (pages_stored t 0 are)) ∙ page_same (memory_of t) (full s) page (λ a _. same a))
+    (λ page below. sym (bytes_hold_pages (stored_pages t) page (pages_are t 0 are)) ∙ page_same (memory_of t) (full s) page (λ a _. same a))
 
 -- ---- the pages that it opens
-pub ascend_from : (least : ℕ) (ps : List ℕ) → Ascend least ps → ((p : ℕ) → IsTrue (contains ps p) → p < 262144) → AscendFrom least ps
+pub ascend_from : (least : ℕ) (ps : List ℕ) → Ascend least ps → ((p : ℕ) → Contains ps p → p < 262144) → AscendFrom least ps
 ascend_from least [] up low = tt
 ascend_from least (p ∷ ps) up low =
-    (up.0, low p (tells_contains (p ∷ ps) p (0, omega arith, refl)), subst (λ (n : ℕ). AscendFrom n ps) (omega arith) (ascend_from (suc p) ps up.1 (λ q h. low q (or_right _ (contains ps q) h))))
+    (up.0, low p (Contains-head p p ps refl), subst (λ (n : ℕ). AscendFrom n ps) (omega arith) (ascend_from (suc p) ps up.1 (λ q h. low q (Contains-tail q p ps h))))
 
 -- ---- the lengths of the segments, this one among them
 pub cuts_here : (r : State) (c : Cutting) (u : IsUnderWay r c) → IsLongest r c u → 1 ≤ c.steps
@@ -201,7 +195,7 @@ opened_pages c h some = go h.stands.segment
         subst AreOpened (sym u.touched) (record {
           some = ascending_some pages 262143 (touched_registers u.s c.steps (omega (arith, some)));
           few = omega (arith, bounds.1, h.limits.most_pages);
-          ascending = ascend_from 0 (ascending pages) (ascends pages) (λ p e. touched_low u.s c.steps ready p (sym (ascending_has pages p) ∙ e));
+          ascending = ascend_from 0 (ascending pages) (ascends pages) (λ p e. touched_low u.s c.steps ready p (Contains-from_ascending pages p e));
         })
     go (inr over) = absurd (omega (arith, over.steps, some))
 

@@ -1,5 +1,7 @@
 -- The segment that is under way, from one call to the next.
 use Rattle.std.proofs.Common.{◌≡◌, ◌⊎◌, inl, inr, ℕ, suc, ◌+◌, ◌-◌, ◌*◌, ◌<◌, ◌≤◌, Bool, true, false, leb, List, [], ◌++◌, length, Option, Some, None, IsTrue, refl, sym, ap, ap₂, ◌∙◌, subst, arith, length-append}
+use Rattle.std.proofs.lemmas.Option.{none-some, same_Some}
+use Rattle.std.proofs.lemmas.Bool.{true≢false}
 use Rattle.std.specs.Prelude.{is_some, replicate, ◌&&◌}
 use Rattle.page_core.specs.Images.{Image}
 use Rattle.page_core.specs.Memory.{ascending}
@@ -10,14 +12,15 @@ use Rattle.rv_step.specs.Machine.{State, Halted, step_of, foot_of, step_cost, fu
 use Rattle.rv_step.specs.Laws.{IsReady}
 use Rattle.rv_step.specs.Runs.{start, after, spent, touched, pages_at, IsOutcome}
 use Rattle.rv_step.specs.declared.outcome.Outcome.{Outcome}
-use Rattle.rv_step.proofs.Runs.{same_some, step_back, after-add}
+use Rattle.rv_step.proofs.Runs.{step_back, after-add, spent_next}
 use Rattle.seal_replay.proofs.Chains.{start_ready}
 use Rattle.flat_machine.specs.Going.{Going, state_of, gone, gone_in, HaltsWith, Stands as IsRun, DoesOne, DoesNone, EndsSo}
 use Rattle.executor.specs.Segments.{Limits, is_fault, done_in, fits, segments}
 use Rattle.executor.specs.Proving.{used}
 use Rattle.executor.specs.Laws.{AreLimits}
 use Rattle.executor.specs.Cutting.{Beginning, Cutting, BeginsAt, IsBegun, HasOutcome, IsUnderWay, IsOver, Stands, IsWhole, IsCutting, SameButBeginning}
-use Rattle.executor.proofs.Cutting.{run_ready, spent_next, done_at_from, done_in_from, fits_none, fits_tells, spent_least, longest_is, ascending_added}
+use Rattle.executor.proofs.Ordered.{ascending_added}
+use Rattle.executor.proofs.Cutting.{run_ready, done_at_from, done_in_from, fits_none, fits_tells, spent_least, longest_is}
 use Rattle.executor.proofs.Covered.{one_fits, done_to_outcome}
 use Rattle.executor.proofs.Forward.{run_words}
 
@@ -120,14 +123,11 @@ cutting_moved c g none run h = record {
 module _ (c : Cutting) (at : Beginning) (untold : c.outcome ≡ None) (on : c.going.halted ≡ None) (unheld : c.beginning ≡ None)
     (pc : at.pc ≡ c.going.pc) (read : at.read ≡ length c.going.read) (stored : IsStoredFrom 0 at.tree) (memory : (a : ℕ) → memory_of at.tree a ≡ full (state_of c.going) a)
     (image : Image) (words : List ℕ) (run : IsRun c.going image words) where
-  some_none : {A : Type 0} {B : Type 0} → (x : A) → Some x ≡ None → B
-  some_none x e = absurd (cc)
-
   held : IsUnderWay (start image words) c ⊎ IsOver (start image words) c → IsUnderWay (start image words) (record c { beginning = Some at }) ⊎ IsOver (start image words) (record c { beginning = Some at })
   held (inl u) =
       let none : c.steps ≡ 0 = subst (λ (o : Option Beginning). IsBegun c.steps o) unheld u.begun in
       let first : c.going.steps ≡ u.b = omega (arith, u.steps, none) in
-      let here : state_of c.going ≡ u.s = same_some _ _ (sym (went_all c.going image words run on) ∙ ap (after (start image words)) first ∙ u.reached) in
+      let here : state_of c.going ≡ u.s = same_Some _ _ (sym (went_all c.going image words run on) ∙ ap (after (start image words)) first ∙ u.reached) in
       let all : words ≡ used (start image words) u.b ++ u.s.words = run_words (start image words) u.b u.s u.reached in
       let sizes : length c.going.read + length c.going.words ≡ length (used (start image words) u.b) + length u.s.words =
       sym (length-append c.going.read c.going.words) ∙ ap length (run.all ∙ all) ∙ length-append (used (start image words) u.b) u.s.words in
@@ -150,14 +150,10 @@ module _ (c : Cutting) (at : Beginning) (untold : c.outcome ≡ None) (on : c.go
         touched = u.touched;
         outcome = u.outcome;
       })
-  held (inr o) = some_none o.outcome (sym o.told ∙ untold)
+  held (inr o) = absurd (none-some o.outcome (sym untold ∙ o.told))
 
   pub stands_begun : Stands c image words → Stands (record c { beginning = Some at }) image words
   stands_begun stands = record { run = run; segment = held stands.segment }
-
-pub none_held : {A : Type 0} (o : Option A) → is_some o ≡ false → o ≡ None
-none_held None h = refl
-none_held (Some x) h = absurd (cc)
 
 pub cutting_begun : (c : Cutting) (at : Beginning) → c.outcome ≡ None → c.beginning ≡ None → at.pc ≡ c.going.pc → at.read ≡ length c.going.read → IsStoredFrom 0 at.tree → ((a : ℕ) → memory_of at.tree a ≡ full (state_of c.going) a)
     → IsCutting c → IsCutting (record c { beginning = Some at })
@@ -210,12 +206,12 @@ module _ (g h : Going) (image : Image) (words : List ℕ) (limit : ℕ) (on : g.
   no_fault None is =
       let next : after (start image words) (suc g.steps) ≡ Some (state_of h) = ap (after (start image words)) (omega (arith, one.steps)) ∙ went_all h image words after_run is in
       let (u, before, went) = step_back (start image words) g.steps (state_of h) next in
-      ap (λ (s : State). is_fault (step_of s)) (same_some _ _ (sym here ∙ before)) ∙ ap is_fault went
+      ap (λ (s : State). is_fault (step_of s)) (same_Some _ _ (sym here ∙ before)) ∙ ap is_fault went
   no_fault (Some code) is =
       let halts : (1 ≤ h.steps) × (step_of (state_of h) ≡ Halted code) = subst (λ (o : Option ℕ). HaltsWith (state_of h) h.steps o) is after_run.halts in
       let there : after (start image words) g.steps ≡ Some (state_of h) =
       ap (after (start image words)) (omega (arith, one.steps)) ∙ ap (λ (o : Option ℕ). after (start image words) (gone_in h.steps o)) (sym is) ∙ after_run.reached in
-      ap (λ (s : State). is_fault (step_of s)) (same_some _ _ (sym here ∙ there)) ∙ ap is_fault halts.1
+      ap (λ (s : State). is_fault (step_of s)) (same_Some _ _ (sym here ∙ there)) ∙ ap is_fault halts.1
 
   -- so the step is done
   pub step_done : g.steps < done_in limit (start image words)
@@ -338,10 +334,7 @@ whole_ended r c o told (inr over) = tt
 -- or where the next step doesn't fit
 begins_here : (s t : State) (n : ℕ) → n ≡ 0 → after s n ≡ Some t → s ≡ t
 unfolding after
-begins_here s t n none at = same_some s t (ap (after s) (sym none) ∙ at)
-
-true_false : {A : Type 0} → true ≡ false → A
-true_false e = absurd (cc)
+begins_here s t n none at = same_Some s t (ap (after s) (sym none) ∙ at)
 
 pub whole_full : (c : Cutting) → IsCutting c → c.outcome ≡ None → has_room (foot_of (state_of c.going)) (step_cost (state_of c.going)) c.meter ≡ false
     → (image : Image) (words : List ℕ) → (run : IsRun c.going image words) → (segment : IsUnderWay (start image words) c ⊎ IsOver (start image words) c) → IsWhole (start image words) c segment
@@ -354,7 +347,7 @@ whole_full c h untold room image words run (inl u) =
     record {
       longest = longest_is c.limits u.s c.steps (done_in c.limits.limit (start image words) - u.b) u.fits (omega (arith, u.within)) (inr over);
       ended = λ none.
-          true_false (sym one ∙ ap (λ (s : State). fits c.limits s 1) (sym (begins_here u.s (state_of c.going) c.steps none at)) ∙ ap (λ (n : ℕ). fits c.limits u.s (suc n)) (sym none) ∙ over);
+          absurd (true≢false (sym one ∙ ap (λ (s : State). fits c.limits s 1) (sym (begins_here u.s (state_of c.going) c.steps none at)) ∙ ap (λ (n : ℕ). fits c.limits u.s (suc n)) (sym none) ∙ over));
     }
 whole_full c h untold room image words run (inr over) = some_not_none over.outcome c.outcome over.told untold
 

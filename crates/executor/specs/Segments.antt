@@ -10,6 +10,11 @@ pub record Limits : Type 0 where
   pub pages : ℕ
   pub limit : ℕ
 
+-- the greatest of the numbers from 1 to n that pass the test, or 0 where none does
+unfoldable pub greatest : (ℕ → Bool) → ℕ → ℕ
+greatest test zero = 0
+greatest test (suc n) = cond (test (suc n)) (suc n) (greatest test n)
+
 -- ---- how many steps are in segments
 abbrev pub is_fault : Event → Bool
 is_fault (Went t) = false
@@ -24,14 +29,14 @@ abbrev pub is_done_at : ℕ → ℕ → Option State → Bool
 is_done_at limit c (Some t) = is_done limit c t
 is_done_at limit c None = false
 
--- how many of the first n steps from s are done
-unfoldable pub done_among : ℕ → State → ℕ → ℕ
-done_among limit s zero = 0
-done_among limit s (suc n) = cond (is_done_at limit (spent s n) (after s n)) (suc n) (done_among limit s n)
+-- whether the n-th step from s is done, counted from 1
+abbrev pub is_nth_done : ℕ → State → ℕ → Bool
+is_nth_done limit s zero = false
+is_nth_done limit s (suc n) = is_done_at limit (spent s n) (after s n)
 
 -- how many steps from s are done, each of which costs at least 1: those before the run's outcome, and the one that halts
 abbrev pub done_in : ℕ → State → ℕ
-done_in limit s = done_among limit s limit
+done_in limit s = greatest (is_nth_done limit s) limit
 
 -- ---- the segments
 -- n steps from s fit into a segment
@@ -39,9 +44,8 @@ unfoldable pub fits : Limits → State → ℕ → Bool
 fits l s n = leb (spent s n) l.cycles && leb (length (ascending (touched s n))) l.pages
 
 -- the greatest number of steps from s, at most n, that fit
-unfoldable pub longest : Limits → State → ℕ → ℕ
-longest l s zero = 0
-longest l s (suc n) = cond (fits l s (suc n)) (suc n) (longest l s n)
+abbrev pub longest : Limits → State → ℕ → ℕ
+longest l s n = greatest (fits l s) n
 
 -- the lengths of the segments of n steps, at most `most` of them
 unfoldable pub segments : Limits → ℕ → Option State → ℕ → List ℕ

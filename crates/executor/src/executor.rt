@@ -105,9 +105,7 @@ fn copied(alloc: Global, words: &[u32]) -> Result<WordList, AllocError>
     ensures are_words { IfOk result (λ list. All (λ word. word < 2 ^ 32) list.items) }
 {
     let mut list = WordList::new(alloc);
-    for word in words {
-        list.push(*word)?;
-    }
+    list.extend(words)?;
     Ok(list)
 }
 

@@ -4,14 +4,16 @@ use Rattle.std.specs.Int.{w32, to_le_bytes}
 use Rattle.std.specs.List.{flat_map}
 use Rattle.std.specs.Prelude.{replicate, unwrap_or, is_some, option_map}
 use Rattle.std.specs.Option.{option_or}
+use Rattle.std.proofs.lemmas.Option.{none-some}
 use Rattle.std.proofs.lemmas.Bool.Decides.{leb_tells, nat_tests}
 use Rattle.std.proofs.Math.Seq.{take-length}
 use Rattle.page_core.specs.Memory.{top, put}
 use Rattle.page_core.specs.Pages.{zero_page}
+use Rattle.page_core.proofs.Zeros.{zero_byte}
 use Rattle.page_core.specs.Stored.{Stored, stored_at, first_from, memory_of}
 use Rattle.rv_step.specs.Machine.{full_of}
 use Rattle.rv_step.specs.Opened.{page_in}
-use Rattle.rv_step.proofs.Words.{word_put, none_put}
+use Rattle.rv_step.proofs.Words.{none_put, full_up_to, one_more_full, all_full}
 use Rattle.flat_machine.specs.Layers.{Layers, layered, memory_in}
 
 -- ---- the pages
@@ -19,15 +21,6 @@ use Rattle.flat_machine.specs.Layers.{Layers, layered, memory_in}
 pub record ArePut (m : Layers) (map : Stored) (n : ℕ) : Type 0 where
   pub below : (k : ℕ) → k < n → stored_at map k ≡ layered m k
   pub others : (k : ℕ) → n ≤ k → stored_at map k ≡ None
-
-get_or-zeros : (n k : ℕ) → get_or {A = ℕ} (replicate n 0) k 0 ≡ 0
-get_or-zeros zero k = refl
-get_or-zeros (suc n) zero = refl
-get_or-zeros (suc n) (suc k) = get_or-zeros n k
-
-zero_byte : (k : ℕ) → get_or zero_page k 0 ≡ 0
-unfolding zero_page
-zero_byte k = get_or-zeros 1024 k
 
 -- all pages of a memory that is zero from its end on and has none from this number on
 pub put_all : (m : Layers) (map : Stored) (n : ℕ) → n ≤ 262144 → ((k : ℕ) → n ≤ k → k < 262144 → layered m k ≡ None) → ArePut m map n → ((a : ℕ) → 268435456 ≤ a → memory_in m a ≡ 0)
@@ -46,10 +39,7 @@ put_all m map n bound none are rest a =
 -- a map without a first page has none
 pub no_first : (stored : Stored) → first_from 0 stored ≡ None → (n : ℕ) → stored_at stored n ≡ None
 no_first [] none n = refl
-no_first (p ∷ ps) none n = let e : leb 0 p.0 ≡ true = grind (arith, nat_tests) in absurd (some_none p (sym (rw e refl) ∙ none))
-  where
-    some_none : {A : Type 0} (x : A) → Some x ≡ None → ⊥
-    some_none x e = cc
+no_first (p ∷ ps) none n = let e : leb 0 p.0 ≡ true = grind (arith, nat_tests) in absurd (none-some p (sym none ∙ rw e refl))
 
 -- where the map has no page, and the table none from this number on, neither has one
 pub no_page : (m l : Layers) (n : ℕ) → l ≡ m → page_in l.above n ≡ None → first_from 0 l.below ≡ None → layered m n ≡ None
@@ -58,35 +48,17 @@ no_page m l n is above below = ap (λ (x : Layers). layered x n) (sym is) ∙ ap
 -- ---- the registers
 -- the registers from x1 to that before n are written into a memory
 pub record AreWritten (m : ℕ → ℕ) (map : Stored) (x : List ℕ) (n : ℕ) : Type 0 where
-  pub written : (a : ℕ) → memory_of map a ≡ put m (top + 4) (flat_map (to_le_bytes w32) (take (n - 1) (drop 1 x))) a
+  pub written : (a : ℕ) → memory_of map a ≡ full_up_to m x n a
 
 pub written_none : (map : Stored) (x : List ℕ) → AreWritten (memory_of map) map x 1
 written_none map x = record { written = λ a. ap (λ (n : ℕ → ℕ). n a) (none_put (memory_of map) (top + 4)) }
 
 pub written_next : (m : ℕ → ℕ) (mid new : Stored) (x : List ℕ) (n v at : ℕ) → AreWritten m mid x n → 1 ≤ n → n < 32 → length x ≡ 32
     → v ≡ get_or x n 0 → at ≡ top + 4 * n → ((a : ℕ) → memory_of new a ≡ put (memory_of mid) at (to_le_bytes w32 v) a) → AreWritten m new x (n + 1)
-written_next m mid new [] n v at before some low size is there after = absurd (omega (arith, size))
-written_next m mid new (y ∷ x) zero v at before some low size is there after = absurd (omega arith)
-written_next m mid new (y ∷ x) (suc k) v at before some low size is there after =
-    let this : suc k - 1 ≡ k = omega arith in
-    let next : suc k + 1 - 1 ≡ suc k = omega arith in
-    let so_far : memory_of mid ≡ put m (top + 4) (flat_map (to_le_bytes w32) (take (suc k - 1) x)) = λ i a. before.written a i in
-    let more : memory_of new ≡ put (memory_of mid) at (to_le_bytes w32 v) = λ i a. after a i in
-    record {
-      written = λ a.
-          ap (λ (n : ℕ → ℕ). n a)
-          (word_put m (memory_of mid) (memory_of new) (top + 4) at k v x (omega (arith, size)) (omega (arith, there)) is
-          (so_far ∙ ap (λ (j : ℕ). put m (top + 4) (flat_map (to_le_bytes w32) (take j x))) this) more
-          ∙ ap (λ (j : ℕ). put m (top + 4) (flat_map (to_le_bytes w32) (take j x))) (sym next));
-    }
+written_next m mid new x n v at before some low size is there after = record {
+  written = λ a. ap (λ (k : ℕ → ℕ). k a)
+      (one_more_full m (memory_of mid) (memory_of new) x n v at (λ i a. before.written a i) some low size is there (λ i a. after a i));
+}
 
 pub written_all : (m : ℕ → ℕ) (map : Stored) (x : List ℕ) (n : ℕ) → n ≡ 32 → AreWritten m map x n → length x ≡ 32 → (a : ℕ) → memory_of map a ≡ full_of m x a
-unfolding full_of
-written_all m map [] n all are size a = absurd (omega (arith, size))
-written_all m map (y ∷ x) n all are size a =
-    let rest : n - 1 ≡ length x = omega (arith, size, all) in
-    are.written a ∙ ap (λ (xs : List ℕ). put m (top + 4) (flat_map (to_le_bytes w32) xs) a) (ap (λ (j : ℕ). take j x) rest ∙ take-length x)
-
-pub no_item : {A B : Type 0} (f : A → B) (o : Option A) → is_some o ≡ false → option_map f o ≡ None
-no_item f None h = refl
-no_item f (Some x) h = absurd (cc)
+written_all m map x n all are size a = are.written a ∙ ap (λ (k : ℕ → ℕ). k a) (all_full m x n all size)

@@ -1,35 +1,17 @@
 -- A memory in two layers, as its pages are found, written and lifted.
-use Rattle.std.proofs.Common.{◌≡◌, ◌≢◌, ℕ, ◌+◌, ◌/◌, ◌%◌, ◌<◌, ◌≤◌, ◌⊎◌, true, false, List, [], ◌∷◌, length, get_or, Option, Some, None, Result, Ok, Err, replicate, refl, sym, ap, ◌∙◌, arith, inl, inr, ⊎_elim}
-use Rattle.std.specs.Prelude.{All, OnOk, OnErr, is_some, unwrap_or}
+use Rattle.std.proofs.Common.{◌≡◌, ◌≢◌, ℕ, ◌+◌, ◌/◌, ◌%◌, ◌<◌, ◌≤◌, ◌⊎◌, true, false, List, [], ◌∷◌, length, get_or, Option, Some, None, Result, Ok, Err, refl, sym, ap, ◌∙◌, arith, inl, inr, ⊎_elim}
+use Rattle.page_core.proofs.Options.{option_or-none}
+use Rattle.std.specs.Prelude.{OnOk, OnErr, is_some, unwrap_or}
 use Rattle.std.specs.Option.{option_or}
 use Rattle.std.proofs.lemmas.Bool.{cases_Bool, cases_eq, eq-eqb, ne_eqb}
 use Rattle.std.proofs.lemmas.Bool.Decides.{eqb_tells, leb_tells}
-use Rattle.std.proofs.lemmas.List.{get_or_default, length-replicate, get_or-replicate}
-use Rattle.page_core.specs.Memory.{bytes, put}
-use Rattle.page_core.specs.Pages.{Pages, IsPage, zero_page}
+use Rattle.page_core.specs.Memory.{put}
+use Rattle.page_core.specs.Pages.{zero_page}
 use Rattle.page_core.specs.Memories.{flat}
 use Rattle.page_core.specs.Stored.{Stored, stored_at, first_from, IsStoredFrom}
-use Rattle.page_core.proofs.Bytes.{length-bytes, get_or-bytes, put-outside, put-same}
-use Rattle.page_core.proofs.Shown.{byte_shown}
+use Rattle.page_core.proofs.Bytes.{put-outside, put-same}
 use Rattle.rv_step.specs.Opened.{page_in, pages_in}
 use Rattle.flat_machine.specs.Layers.{Layers, layered, layered_pages, memory_in}
-
--- ---- reading
--- a page of zeros is a page
-pub zeros_are : IsPage zero_page
-unfolding zero_page
-zeros_are = (
-  length-replicate {A = ℕ} 1024 0,
-  λ k d h. let zero : get_or (replicate 1024 0) k d ≡ 0 = get_or-replicate 1024 k 0 d (omega (arith, h, length-replicate {A = ℕ} 1024 0)) in omega arith,
-)
-
--- the bytes of the word at an aligned address are below 256, where its page is one
-pub bytes_small : (pages : Pages) (a : ℕ) → a % 4 ≡ 0 → IsPage (pages (a / 1024)) → All (λ byte. byte < 256) (bytes (flat pages) a 4)
-bytes_small pages a aligned is k d within =
-    let low : k < 4 = omega (arith, within, length-bytes (flat pages) a 4) in
-    let read : get_or (bytes (flat pages) a 4) k d ≡ get_or (pages (a / 1024)) (a % 1024 + k) 0 =
-    get_or_default (bytes (flat pages) a 4) k d 0 within ∙ get_or-bytes (flat pages) a 4 k low ∙ byte_shown pages a k (omega (arith, low, aligned)) in
-    omega (arith, read, is.1 (a % 1024 + k) 0 (omega (arith, is.0)))
 
 -- ---- writing
 -- the page of the memory, where one is above and where none is
@@ -146,13 +128,9 @@ pub record IsLifted (least : ℕ) (old now : Layers) : Type 0 where
   pub same : (n : ℕ) → layered now n ≡ layered old n
   pub lifted : (n : ℕ) → n < least → layered now n ≡ page_in now.above n
 
-or_none : (o : Option (List ℕ)) → option_or o None ≡ o
-or_none None = refl
-or_none (Some page) = refl
-
 -- a page that isn't stored below, or is above, is shown from above
 above_alone : (l : Layers) (n : ℕ) → stored_at l.below n ≡ None → layered l n ≡ page_in l.above n
-above_alone l n none = ap (option_or (page_in l.above n)) none ∙ or_none (page_in l.above n)
+above_alone l n none = ap (option_or (page_in l.above n)) none ∙ option_or-none (page_in l.above n)
 
 above_first : (l : Layers) (n : ℕ) → is_some (page_in l.above n) ≡ true → layered l n ≡ page_in l.above n
 above_first l n is =

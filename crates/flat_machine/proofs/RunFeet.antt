@@ -1,13 +1,15 @@
 -- Which pages a step touches and what it costs at least.
-use Rattle.std.proofs.Common.{◌≡◌, ℕ, zero, suc, ◌+◌, ◌-◌, ◌/◌, ◌%◌, ◌<◌, ◌≤◌, true, false, ltb, eqb, List, [], ◌∷◌, ◌++◌, refl, ◌∙◌, arith, IsTrue, IsFalse, ap, None, ⊎_elim}
+use Rattle.std.proofs.Common.{◌≡◌, ℕ, zero, suc, ◌+◌, ◌-◌, ◌/◌, ◌%◌, ◌<◌, ◌≤◌, true, ltb, eqb, List, [], ◌∷◌, ◌++◌, refl, ◌∙◌, arith, IsTrue, ap, None, ⊎_elim}
+use Rattle.std.specs.Prelude.{Contains}
 use Rattle.std.proofs.lemmas.Bool.{cond_both}
 use Rattle.std.proofs.lemmas.Bool.Decides.{nat_tests, leb_tells}
-use Rattle.page_core.specs.Memory.{top, contains, pages_from, pages_of, place, ascending, without}
+use Rattle.page_core.specs.Memory.{top, pages_from, pages_of, place, ascending, without}
+use Rattle.page_core.proofs.Listed.{Contains-none, Contains-cases}
 use Rattle.host_calls.specs.declared.call.Call.TheVariants.{Halt, Read, Commit, Assume}
 use Rattle.host_calls.specs.Calls.{fits_below}
 use Rattle.rv_step.specs.declared.act.Act.{Act}
 use Rattle.rv_step.specs.declared.act.Act.TheVariants.{Sets, Loads, Stores, Does, Faults}
-use Rattle.rv_step.specs.Machine.{State, Went, step_of, act, data_of, pages_of_all, foot_of, step_cost, cost_of_act, first_closed}
+use Rattle.rv_step.specs.Machine.{data_of, State, Went, step_of, act, pages_of_all, foot_of, step_cost, cost_of_act, first_closed}
 use Rattle.rv_step.specs.Acts.{AllBelow}
 use Rattle.rv_step.specs.Stepping.{fetch_foot}
 use Rattle.rv_step.proofs.Acts.{acts_are_sound}
@@ -87,9 +89,9 @@ pub none_closed_of_fetch : (s : State) → first_closed (λ page. ltb page 26214
 none_closed_of_fetch s = none_from 262144 (fetch_foot s) (below-fetch s)
 
 -- so a step leaves a memory zero from its end on
-not_in : (n : ℕ) (ps : List ℕ) (p : ℕ) → AreBelow n ps → n ≤ p → IsFalse (contains ps p)
-not_in n [] p h far = refl
-not_in n (q ∷ ps) p h far = let e : eqb p q ≡ false = grind (arith, nat_tests, h.0) in rw e (not_in n ps p h.1 far)
+not_in : (n : ℕ) (ps : List ℕ) (p : ℕ) → AreBelow n ps → n ≤ p → ¬ Contains ps p
+not_in n [] p h far c = Contains-none p c
+not_in n (q ∷ ps) p h far c = ⊎_elim (λ same. omega (arith, h.0, far, same)) (λ t. not_in n ps p h.1 far t) (Contains-cases p q ps c)
 
 pub rest_on : (s t : State) → s.pc % 4 ≡ 0 → step_of s ≡ Went t → ((a : ℕ) → 268435456 ≤ a → s.memory a ≡ 0) → (a : ℕ) → 268435456 ≤ a → t.memory a ≡ 0
 rest_on s t h went rest a far = (step_keeps s t went).outside a (not_in 262144 (foot_of s) (a / 1024) (below-foot s h) (omega arith)) ∙ rest a far

@@ -1,5 +1,6 @@
 -- What a look at a step and a paid step over a whole memory tell.
 use Rattle.std.proofs.Common.{◌≡◌, ℕ, ◌%◌, ◌<◌, ◌≤◌, Bool, ltb, Option, Some, None, Result, Ok, Err, sym, ap, ◌∙◌, subst}
+use Rattle.std.proofs.lemmas.Option.{none-some}
 use Rattle.rv_isa.specs.declared.fault.Fault.{Fault}
 use Rattle.rv_step.specs.Machine.{State, Went, Halted, Faulted, step_of, foot_of, step_cost}
 use Rattle.rv_step.specs.declared.looking.Looked.{Looked}
@@ -62,7 +63,4 @@ module _ (s t : State) (room : ℕ) (r : Result (Option Paid) StepStop) (answer 
 
   -- none is missed
   pub no_miss : (page : ℕ) → s.pc % 4 ≡ 0 → r ≡ Err (S.Miss page) → ⊥
-  no_miss page aligned is = some_none page (sym (answered (Err (S.Miss page)) is).0 ∙ none_closed s aligned)
-    where
-      some_none : (n : ℕ) → Some n ≡ None → ⊥
-      some_none n e = cc
+  no_miss page aligned is = none-some page (sym (none_closed s aligned) ∙ (answered (Err (S.Miss page)) is).0)

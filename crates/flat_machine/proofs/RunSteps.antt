@@ -6,18 +6,14 @@ use Rattle.std.proofs.lemmas.List.{take-append-drop}
 use Rattle.rv_isa.specs.declared.fault.Fault.{Fault}
 use Rattle.page_core.specs.Images.{Image}
 use Rattle.rv_step.specs.Machine.{State, Event, Went, Halted, Faulted, step_of, step_cost}
-use Rattle.rv_step.specs.Runs.{start, after, spent, at_some, state_gone, ends_with, verdict, IsOutcome}
+use Rattle.rv_step.specs.Runs.{start, after, spent, state_gone, ends_with, verdict, IsOutcome}
 use Rattle.rv_step.specs.Tapes.{Tape}
 use Rattle.rv_step.specs.declared.outcome.Outcome.TheVariants.{Halted as HaltedWith, Faulted as FaultedAt, OverLimit}
-use Rattle.rv_step.proofs.Runs.{step_on}
+use Rattle.rv_step.proofs.Runs.{step_on, spent_next}
 use Rattle.flat_machine.specs.Layers.{memory_in}
 use Rattle.flat_machine.specs.Going.{Going, IsUncut, state_of, gone, gone_in, HaltsWith, Stands, EndsSo}
 
 -- ---- any run
-spent_on : (s : State) (n : ℕ) (t : State) → after s n ≡ Some t → spent s (suc n) ≡ spent s n + step_cost t
-unfolding spent
-spent_on s n t h = ap (λ o. spent s n + at_some step_cost o) h
-
 stops_on : (s : State) (n : ℕ) (t : State) (e : Event) → after s n ≡ Some t → step_of t ≡ e → state_gone e ≡ None → after s (suc n) ≡ None
 unfolding after
 stops_on s n t e h is none = ap (option_and_then (λ u. state_gone (step_of u))) h ∙ ap state_gone is ∙ none
@@ -71,7 +67,7 @@ module _ (g h : Going) (all : h.read ++ h.words ≡ g.read ++ g.words) (steps : 
 
   cost_on : h.cycles ≡ spent (start image words) h.steps
   cost_on =
-      cycles ∙ ap (λ (c : ℕ). c + step_cost (state_of g)) stands.cost ∙ sym (spent_on (start image words) g.steps (state_of g) reached_so)
+      cycles ∙ ap (λ (c : ℕ). c + step_cost (state_of g)) stands.cost ∙ sym (spent_next (start image words) g.steps (state_of g) reached_so)
       ∙ ap (spent (start image words)) (sym more)
 
   pub stands_on : h.halted ≡ None → step_of (state_of g) ≡ Went (state_of h) → Stands h image words
@@ -100,7 +96,7 @@ halted_outcome : (s t : State) (n steps code cycles limit : ℕ) → steps - 1 �
     → IsOutcome s limit (HaltedWith code)
 halted_outcome s t n steps code cycles limit before some reached halts cost keeps =
     let last : steps ≡ suc n = omega arith in
-    let all : cycles ≡ spent s n + step_cost t = cost ∙ ap (spent s) last ∙ spent_on s n t reached in
+    let all : cycles ≡ spent s n + step_cost t = cost ∙ ap (spent s) last ∙ spent_next s n t reached in
     record {
       step = n;
       state = t;

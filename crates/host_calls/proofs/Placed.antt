@@ -1,13 +1,13 @@
 -- Where a page stands among pages that ascend.
 use Rattle.std.proofs.Common.{◌≡◌, ◌≢◌, ℕ, zero, suc, ◌+◌, ◌<◌, ◌≤◌, Bool, true, false, cond, ltb, eqb, List, [], ◌∷◌, take, drop, length, get_or, refl, sym, ap, ap₂, ◌∙◌, ◌-◌, arith, Some, slice_get}
+use Rattle.std.proofs.lemmas.Bool.{ne_eqb}
 use Rattle.std.specs.Prelude.{insert}
 use Rattle.std.proofs.Math.Seq.{take-length}
+use Rattle.std.proofs.lemmas.Option.{same_Some}
 use Rattle.std.proofs.lemmas.Bool.Decides.{nat_tests}
 use Rattle.page_core.specs.Memory.{place}
+use Rattle.page_core.proofs.Ascending.{place_size}
 use Rattle.host_calls.specs.Foots.{below, with_data}
-
-some_same : (p q : ℕ) → Some q ≡ Some p → q ≡ p
-some_same p q e = cc
 
 there_from : (p q : ℕ) (qs : List ℕ) (b : Bool) → ltb q p ≡ b → (slice_get qs (below p qs) ≡ Some p → place p qs ≡ qs)
     → slice_get (q ∷ qs) (cond b (suc (below p qs)) 0) ≡ Some p
@@ -17,7 +17,7 @@ there_from p q qs true less ih e =
     let g : eqb p q ≡ false = grind (arith, nat_tests) in
     rw (f, g) (ap (λ rest. q ∷ rest) (ih e))
 there_from p q qs false more ih e =
-    let same : q ≡ p = some_same p q e in
+    let same : q ≡ p = same_Some q p e in
     let f : ltb p q ≡ false = grind (arith, nat_tests) in
     let g : eqb p q ≡ true = grind (arith, nat_tests) in
     rw (f, g) refl
@@ -66,9 +66,6 @@ below_next p (q ∷ qs) zero h l = let f : ltb q p ≡ true = grind (arith, nat_
 below_next p (q ∷ qs) (suc k) h l = below_next p qs k (omega arith) l
 
 -- ---- a footprint with one more page
-not_code : (c p : ℕ) → c ≢ p → eqb c p ≡ false
-not_code c p h = grind (arith, nat_tests)
-
 -- the pages behind the first two
 abbrev pub behind : List ℕ → List ℕ
 behind foot = take (length foot - 2) (drop 2 foot)
@@ -86,7 +83,7 @@ pub added : (p : ℕ) (foot : List ℕ) (at : ℕ) → 2 ≤ length foot → get
 added p [] at long code is absent = absurd (omega arith)
 added p (r ∷ []) at long code is absent = absurd (omega arith)
 added p (r ∷ c ∷ others) at long code is absent =
-    let f : eqb c p ≡ false = not_code c p code in
+    let f : eqb c p ≡ false = ne_eqb c p code in
     let here : at ≡ below p others = is ∙ ap (below p) (behind-two r c others) in
     let away : slice_get others (below p others) ≢ Some p = λ e. absent (ap₂ slice_get (behind-two r c others) here ∙ e) in
     rw f (ap (λ k. insert (r ∷ c ∷ others) (2 + k) p) here ∙ insert-two r c others (below p others) p ∙ ap (λ rest. r ∷ c ∷ rest) (sym (put_there p others away)))
@@ -104,17 +101,6 @@ not_added p (r ∷ c ∷ others) at long is present =
     same false rest e = e
 
 -- ---- sizes
-placed_size : (p q : ℕ) (qs rest : List ℕ) (b c : Bool) → length rest ≤ length qs + 1 → length qs ≤ length rest
-    → (length (cond b (p ∷ q ∷ qs) (cond c (q ∷ qs) (q ∷ rest))) ≤ length (q ∷ qs) + 1) × (length (q ∷ qs) ≤ length (cond b (p ∷ q ∷ qs) (cond c (q ∷ qs) (q ∷ rest))))
-placed_size p q qs rest true c h l = (omega arith, omega arith)
-placed_size p q qs rest false true h l = (omega arith, omega arith)
-placed_size p q qs rest false false h l = (omega (arith, h), omega (arith, l))
-
-pub place_size : (p : ℕ) (qs : List ℕ) → (length (place p qs) ≤ length qs + 1) × (length qs ≤ length (place p qs))
-unfolding place
-place_size p [] = (omega arith, omega arith)
-place_size p (q ∷ qs) = let (h, l) = place_size p qs in placed_size p q qs (place p qs) (ltb p q) (eqb p q) h l
-
 -- a footprint grows by at most one page
 pub data_size : (p : ℕ) (foot : List ℕ) → (length (with_data p foot) ≤ length foot + 1) × (length foot ≤ length (with_data p foot))
 data_size p [] = (omega arith, omega arith)

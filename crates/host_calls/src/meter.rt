@@ -1,5 +1,5 @@
 ghost use Rattle.std.specs.Prelude.{◌≡◌, ◌+◌, ◌<◌, ◌≤◌, ◌++◌, length, not, vec_len, vec_capacity, IsTrue, IsOk, OnOk, OnErr};
-ghost use Rattle.page_core.specs.Memory.{ascending, place, contains};
+ghost use Rattle.page_core.specs.Memory.{ascending, place, is_among};
 ghost use Rattle.host_calls.specs.Meters.{unused, with_step, is_within, has_room};
 
 use crate::Foot;
@@ -36,7 +36,7 @@ impl Model for Meter {
 // Whether a page is neither among the pages touched, which ascend, nor among the others.
 fn is_new(touched: &[u32], others: &[u32], page: u32) -> bool
     requires { ascending touched.now ≡ touched.now }
-    ensures { result ≡ not (contains (others.now ++ touched.now) page) }
+    ensures { result ≡ not (is_among (others.now ++ touched.now) page) }
 {
     touched.binary_search(&page).is_err() && !others.contains(&page)
 }

@@ -8,13 +8,13 @@ use Rattle.claim_types.specs.declared.claim.Exit.{Exit}
 use Rattle.claim_types.specs.declared.claim.Exit.TheVariants.{Split, Halted as HaltedWith}
 use Rattle.seal_replay.specs.Replay.{stop_of, ending}
 use Rattle.seal_replay.specs.declared.stop.ReplayStop.{ReplayStop}
-use Rattle.rv_step.proofs.Runs.{same_some}
+use Rattle.std.proofs.lemmas.Option.{same_Some}
 use Rattle.claim_types.specs.declared.state.State.{State as SystemState}
 use Rattle.claim_types.specs.Claims.{SpanClaim}
 use Rattle.receipt_types.specs.Seals.{Seal}
 use Rattle.seal_replay.specs.Claiming.{claim_at, unless, claim_of}
 use Rattle.lift_join.specs.Joins.{same_state, is_split, joined, join_both}
-use Rattle.seal_replay.proofs.Endings.{number_same}
+use Rattle.std.proofs.lemmas.Bool.{eqb-true}
 
 -- ---- the claim of a seal
 pub record HasClaim (H : List ℕ → List ℕ) (seal : Seal) (claim : SpanClaim) : Type 0 where
@@ -26,7 +26,7 @@ pub record HasClaim (H : List ℕ → List ℕ) (seal : Seal) (claim : SpanClaim
 
 unless_is : (H : List ℕ → List ℕ) (seal : Seal) (o : Option ReplayStop) (p : Option (Exit × State)) (claim : SpanClaim) → unless o (option_map (claim_at H seal) p) ≡ Some claim
     → (e : Exit × State) × (o ≡ None) × (p ≡ Some e) × (claim ≡ claim_at H seal e)
-unless_is H seal None (Some e) claim h = (e, refl, refl, sym (same_some (claim_at H seal e) claim h))
+unless_is H seal None (Some e) claim h = (e, refl, refl, sym (same_Some (claim_at H seal e) claim h))
 unless_is H seal None None claim h = absurd (cc)
 unless_is H seal (Some stop) p claim h = absurd (cc)
 
@@ -45,7 +45,7 @@ and_right true b h = h
 and_right false b h = absurd (cc)
 
 cond_some : (b : Bool) (x y : SpanClaim) → cond b (Some x) None ≡ Some y → (b ≡ true) × (x ≡ y)
-cond_some true x y h = (refl, same_some x y h)
+cond_some true x y h = (refl, same_Some x y h)
 cond_some false x y h = absurd (cc)
 
 split_tells : (exit : Exit) → is_split exit ≡ true → exit ≡ Split
@@ -57,7 +57,7 @@ states_same a b p q = λ i. record { pc = p i; root = q i }
 
 pub same_state_tells : (a b : SystemState) → same_state a b ≡ true → a ≡ b
 same_state_tells a b h =
-    states_same a b (number_same a.pc b.pc (and_left (eqb a.pc b.pc) (bytes_eq a.root b.root) h))
+    states_same a b (eqb-true a.pc b.pc (and_left (eqb a.pc b.pc) (bytes_eq a.root b.root) h))
     ((bytes_eq-Decides a.root b.root).0 (and_right (eqb a.pc b.pc) (bytes_eq a.root b.root) h))
 
 pub record Joins (a b : Option SpanClaim) (claim : SpanClaim) : Type 0 where

@@ -41,7 +41,7 @@ any_order (Some a) None z = refl
 any_order (Some a) (Some b) None = none_right (claim_join a b)
 any_order (Some a) (Some b) (Some c) = some_three a b c
 
-not_none : (x : Seal) (xs : List Seal) → x ∷ xs ≢ []
+pub not_none : (x : Seal) (xs : List Seal) → x ∷ xs ≢ []
 not_none x xs e = cc
 
 pub chains_join : (H : List ℕ → List ℕ) → ChainsJoin H

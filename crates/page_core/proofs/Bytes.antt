@@ -1,14 +1,15 @@
 -- Reading and writing ranges of bytes, by pages.
 use Rattle.std.proofs.Common.{◌≡◌, ℕ, zero, suc, ◌+◌, ◌-◌, ◌*◌, ◌/◌, ◌%◌, ◌<◌, ◌≤◌, true, cond, ◌&&◌, leb, ltb, List, [], ◌∷◌, length, get_or, refl, sym, ap, ap₂, ◌∙◌, arith, IsTrue, ◌⊎◌, ⊎_elim}
-use Rattle.std.specs.Prelude.{All}
+use Rattle.std.specs.Prelude.{All, Contains}
 use Rattle.std.specs.Int.{Width, w32, byte_len, byte_at, bytes_low_first, to_le_bytes}
 use Rattle.std.specs.List.{flat_map}
 use Rattle.std.proofs.lemmas.Bool.Decides.{nat_tests, eqb_tells, leb_tells}
 use Rattle.std.proofs.lemmas.List.{get_or_past}
 use Rattle.std.proofs.lemmas.List.Elements.{All-nil, All-cons, All-append}
-use Rattle.page_core.specs.Memory.{bytes, put, contains, pages_from, pages_of}
+use Rattle.page_core.specs.Memory.{bytes, put, pages_from, pages_of}
 use Rattle.page_core.specs.Pages.{Pages}
 use Rattle.page_core.specs.Memories.{page_of, flat}
+use Rattle.page_core.proofs.Listed.{Contains-head, Contains-tail}
 use Rattle.page_core.specs.Laws.{PagesHoldBytes, BytesHoldPages, PutReadsBack}
 
 pub bytes-same : (m n : ℕ → ℕ) (a k : ℕ) → ((j : ℕ) → a ≤ j → j < a + k → m j ≡ n j) → bytes m a k ≡ bytes n a k
@@ -64,14 +65,14 @@ pub small_in : (bs : List ℕ) → All (λ b. b < 256) bs → (i : ℕ) → get_
 small_in bs all i = ⊎_elim (λ t. omega (arith, get_or_past bs i 0 t.1)) (λ t. all i 0 t.1) (leb_tells (length bs) i)
 
 -- ---- pages
-pub in_pages_from : (p n q : ℕ) → p ≤ q → q < p + n → IsTrue (contains (pages_from p n) q)
+pub in_pages_from : (p n q : ℕ) → p ≤ q → q < p + n → Contains (pages_from p n) q
 unfolding pages_from
 in_pages_from p zero q lo hi = absurd (omega arith)
 in_pages_from p (suc n) q lo hi =
-    ⊎_elim (λ t. rw t.0 refl)
-    (λ t. rw t.0 (in_pages_from (p + 1) n q (omega (arith, t.1)) (omega arith))) (eqb_tells q p)
+    ⊎_elim (λ t. Contains-head q p (pages_from (p + 1) n) t.1)
+    (λ t. Contains-tail q p (pages_from (p + 1) n) (in_pages_from (p + 1) n q (omega (arith, t.1)) (omega arith))) (eqb_tells q p)
 
-pub in_pages_of : (a n j : ℕ) → a ≤ j → j < a + n → IsTrue (contains (pages_of a n) (j / 1024))
+pub in_pages_of : (a n j : ℕ) → a ≤ j → j < a + n → Contains (pages_of a n) (j / 1024)
 in_pages_of a zero j lo hi = absurd (omega arith)
 in_pages_of a (suc n) j lo hi = in_pages_from (a / 1024) ((a + n) / 1024 + 1 - a / 1024) (j / 1024) (omega arith) (omega arith)
 

@@ -1,5 +1,8 @@
 pub mod Bytes
 pub mod Listed
+pub mod Ascending
+pub mod Zeros
+pub mod Options
 pub mod Numbered
 pub mod Ranges
 pub mod Shown

@@ -1,44 +1,31 @@
--- The test whether a page is listed.
-use Rattle.std.proofs.Common.{◌≡◌, ℕ, zero, suc, Bool, true, false, ◌||◌, eqb, List, [], ◌∷◌, ◌++◌, refl, arith, IsTrue, inl, inr, ◌⊎◌, ⊎_elim}
+-- What is listed, as a fact and as a test.
+use Rattle.std.proofs.Common.{◌≡◌, ℕ, zero, suc, eqb, List, [], ◌∷◌, sym, arith, IsTrue, inl, inr, ◌⊎◌, ⊎_elim}
 use Rattle.std.specs.Prelude.{Contains}
-use Rattle.std.proofs.lemmas.Bool.Decides.{nat_tests}
+use Rattle.std.proofs.lemmas.Bool.{or_cases, or_left, or_right, eqb-true, eq-eqb}
 use Rattle.std.proofs.lemmas.List.Elements.{Contains-append_right}
-use Rattle.page_core.specs.Memory.{contains}
+use Rattle.page_core.specs.Memory.{is_among}
+
+pub Contains-none : (p : ℕ) → Contains [] p → ⊥
+Contains-none p h = omega (arith, h.1)
 
 -- a member of a list is the head or of the tail
-pub or_split : (a b : Bool) → IsTrue (a || b) → IsTrue a ⊎ IsTrue b
-or_split true b h = inl refl
-or_split false b h = inr h
+pub Contains-head : (p q : ℕ) (ps : List ℕ) → p ≡ q → Contains (q ∷ ps) p
+Contains-head p q ps e = (0, omega arith, sym e)
 
-pub or_left : (a b : Bool) → IsTrue a → IsTrue (a || b)
-or_left a b h = rw h refl
+pub Contains-tail : (p q : ℕ) (ps : List ℕ) → Contains ps p → Contains (q ∷ ps) p
+Contains-tail p q ps h = Contains-append_right (q ∷ []) ps p h
 
-pub or_right : (a b : Bool) → IsTrue b → IsTrue (a || b)
-or_right true b h = refl
-or_right false b h = h
+pub Contains-cases : (p q : ℕ) (ps : List ℕ) → Contains (q ∷ ps) p → (p ≡ q) ⊎ Contains ps p
+Contains-cases p q ps (zero, lt, e) = inl (omega (arith, e))
+Contains-cases p q ps (suc k, lt, e) = inr (k, omega arith, e)
 
-pub contains-left : (ps qs : List ℕ) (p : ℕ) → IsTrue (contains ps p) → IsTrue (contains (ps ++ qs) p)
-contains-left [] qs p h = absurd (cc)
-contains-left (r ∷ ps) qs p h =
-    ⊎_elim (λ t. or_left _ _ t) (λ t. or_right (eqb p r) _ (contains-left ps qs p t)) (or_split (eqb p r) (contains ps p) h)
+pub Contains-from_is_among : (ps : List ℕ) (p : ℕ) → IsTrue (is_among ps p) → Contains ps p
+Contains-from_is_among [] p h = absurd (cc)
+Contains-from_is_among (q ∷ ps) p h =
+    ⊎_elim (λ t. Contains-head p q ps (eqb-true p q t)) (λ t. Contains-tail p q ps (Contains-from_is_among ps p t)) (or_cases (eqb p q) (is_among ps p) h)
 
-pub contains-right : (ps qs : List ℕ) (p : ℕ) → IsTrue (contains qs p) → IsTrue (contains (ps ++ qs) p)
-contains-right [] qs p h = h
-contains-right (r ∷ ps) qs p h = or_right (eqb p r) _ (contains-right ps qs p h)
-
-pub contains_tells : (ps : List ℕ) (p : ℕ) → IsTrue (contains ps p) → Contains ps p
-contains_tells [] p h = absurd (cc)
-contains_tells (q ∷ ps) p h =
-    ⊎_elim (λ t. (0, omega arith, same q p t))
-    (λ t. Contains-append_right (q ∷ []) ps p (contains_tells ps p t)) (or_split (eqb p q) (contains ps p) h)
-  where
-    same : (q p : ℕ) → IsTrue (eqb p q) → q ≡ p
-    same q p t = grind (arith, nat_tests)
-
-test_same : (q p : ℕ) → q ≡ p → eqb p q ≡ true
-test_same q p e = grind (arith, nat_tests)
-
-pub tells_contains : (ps : List ℕ) (p : ℕ) → Contains ps p → IsTrue (contains ps p)
-tells_contains [] p c = absurd (omega (arith, c.1))
-tells_contains (q ∷ ps) p (zero, lt, e) = or_left (eqb p q) (contains ps p) (test_same q p e)
-tells_contains (q ∷ ps) p (suc k, lt, e) = or_right (eqb p q) (contains ps p) (tells_contains ps p (k, omega arith, e))
+pub is_among-from_Contains : (ps : List ℕ) (p : ℕ) → Contains ps p → IsTrue (is_among ps p)
+is_among-from_Contains [] p c = absurd (Contains-none p c)
+is_among-from_Contains (q ∷ ps) p c =
+    ⊎_elim (λ t. or_left (eqb p q) (is_among ps p) (eq-eqb p q t))
+    (λ t. or_right (eqb p q) (is_among ps p) (is_among-from_Contains ps p t)) (Contains-cases p q ps c)

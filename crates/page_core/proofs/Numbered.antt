@@ -1,7 +1,6 @@
 -- Pages that are stored by their numbers.
 use Rattle.std.proofs.Common.{◌≡◌, ◌≢◌, ℕ, ◌+◌, ◌<◌, ◌≤◌, Bool, true, false, cond, eqb, leb, List, [], ◌∷◌, length, map, Option, Some, None, refl, sym, ap, ◌∙◌, arith, ⊎_elim}
-use Rattle.std.specs.Prelude.{option_map, unwrap_or}
-use Rattle.std.proofs.lemmas.List.{length-replicate}
+use Rattle.std.specs.Prelude.{option_map}
 use Rattle.std.specs.Ordering.{nat_cmp}
 use Rattle.std.specs.declared.cmp.Ordering.TheVariants.{Less, Equal, Greater}
 use Rattle.std.specs.declared.ops.Bound.TheVariants.{Included, Unbounded}
@@ -9,7 +8,8 @@ use Rattle.std.specs.BTreeMap.{is_at, insert_entry}
 use Rattle.std.specs.BTreeMap.Range.{range_contains, entries_between}
 use Rattle.std.specs.Map.{lookup, set_value}
 use Rattle.std.proofs.lemmas.Bool.Decides.{nat_tests, leb_tells, eqb_tells}
-use Rattle.page_core.specs.Pages.{IsPage, zero_page}
+use Rattle.page_core.specs.Pages.{IsPage}
+use Rattle.page_core.proofs.Zeros.{pages_are}
 use Rattle.page_core.specs.Stored.{Stored, stored_at, first_from, stored_pages, IsStoredFrom}
 
 -- a number is found by its equality
@@ -99,11 +99,5 @@ stored_insert f (e ∷ es) n box least from below page are =
     (leb_tells n e.0)
 
 -- a page that is stored, and one that isn't, has 1,024 bytes
-long_from : (stored : Stored) (least n : ℕ) → IsStoredFrom least stored → length (stored_pages stored n) ≡ 1024
-unfolding zero_page
-long_from [] least n are = length-replicate {A = ℕ} 1024 0
-long_from (p ∷ ps) least n are =
-    elim (eqb n p.0) as (λ b. length (unwrap_or (cond b (Some p.1) (stored_at ps n)) zero_page) ≡ 1024) [ true ↦ are.2.0 | false ↦ long_from ps (p.0 + 1) n are.3 ]
-
 pub stored_long : (seen stored : Stored) (n : ℕ) → seen ≡ stored → IsStoredFrom 0 seen → length (stored_pages stored n) ≡ 1024
-stored_long seen stored n view are = ap (λ (s : Stored). length (stored_pages s n)) (sym view) ∙ long_from seen 0 n are
+stored_long seen stored n view are = ap (λ (s : Stored). length (stored_pages s n)) (sym view) ∙ (pages_are seen 0 are n).0

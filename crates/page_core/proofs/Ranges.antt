@@ -1,12 +1,15 @@
 -- Ranges of bytes that are put one part after the other, each part into one page.
-use Rattle.std.proofs.Common.{◌≡◌, ℕ, zero, suc, ◌+◌, ◌-◌, ◌*◌, ◌/◌, ◌%◌, ◌<◌, ◌≤◌, Bool, true, false, ◌||◌, eqb, List, [], ◌∷◌, ◌++◌, length, get_or, Option, Some, None, is_some, refl, sym, ap, ◌∙◌, arith, IsTrue, inl, inr, ◌⊎◌, ⊎_elim, append_assoc, length-append}
+use Rattle.std.proofs.Common.{◌≡◌, ℕ, zero, suc, ◌+◌, ◌-◌, ◌*◌, ◌/◌, ◌%◌, ◌<◌, ◌≤◌, Bool, ◌||◌, eqb, List, [], ◌∷◌, ◌++◌, length, get_or, None, is_some, refl, sym, ap, ◌∙◌, arith, IsTrue, inl, inr, ◌⊎◌, ⊎_elim, append_assoc, length-append}
+use Rattle.std.specs.Prelude.{Contains}
 use Rattle.std.proofs.Math.Bool.{or_assoc}
+use Rattle.std.proofs.lemmas.Bool.{or_cases, or_left, or_right, or_parts}
 use Rattle.std.proofs.lemmas.Bool.Decides.{same_from_decides, leb_tells, eqb_tells}
 use Rattle.std.proofs.lemmas.List.{append-nil, get_or_append_left, get_or-append-add}
-use Rattle.page_core.specs.Memory.{put, contains, pages_from, pages_of}
+use Rattle.page_core.specs.Memory.{put, is_among, pages_from, pages_of}
 use Rattle.page_core.specs.Stored.{Stored, stored_at, memory_of, StoresAlso, StoresSome, IsAbsentAmong}
 use Rattle.page_core.proofs.Bytes.{put-outside, put-inside, put-same, in_pages_from, in_pages_of}
-use Rattle.page_core.proofs.Listed.{or_split, or_left, or_right}
+use Rattle.page_core.proofs.Options.{none_from}
+use Rattle.page_core.proofs.Listed.{Contains-none, Contains-cases, Contains-from_is_among, is_among-from_Contains}
 
 -- the bytes up to an address were put into a memory of pages, and the rest of them wasn't yet
 pub record IsPutUpTo (old new : Stored) (address : ℕ) (bytes : List ℕ) (at : ℕ) (rest : List ℕ) : Type 0 where
@@ -15,7 +18,7 @@ pub record IsPutUpTo (old new : Stored) (address : ℕ) (bytes : List ℕ) (at :
   pub reached : at ≡ address + length done
   pub ends : at + length rest ≡ address + length bytes
   pub written : (a : ℕ) → memory_of new a ≡ put (memory_of old) address done a
-  pub stored : (n : ℕ) → is_some (stored_at new n) ≡ (contains (pages_of address (length done)) n || is_some (stored_at old n))
+  pub stored : (n : ℕ) → is_some (stored_at new n) ≡ (is_among (pages_of address (length done)) n || is_some (stored_at old n))
 
 -- ---- what is put
 -- a byte among those that were put
@@ -58,48 +61,48 @@ put_torn m a xs ys k =
 
 -- ---- pages
 -- a page among n pages is one of their numbers
-from_pages_from : (p n q : ℕ) → IsTrue (contains (pages_from p n) q) → (p ≤ q) × (q < p + n)
+from_pages_from : (p n q : ℕ) → Contains (pages_from p n) q → (p ≤ q) × (q < p + n)
 unfolding pages_from
-from_pages_from p zero q h = absurd (cc)
+from_pages_from p zero q h = absurd (Contains-none q h)
 from_pages_from p (suc n) q h =
     ⊎_elim
-    (λ same. (omega (arith, same.1), omega (arith, same.1)))
+    (λ same. (omega (arith, same), omega (arith, same)))
     (λ other.
-    let later = from_pages_from (p + 1) n q (rw other.0 at h) in
+    let later = from_pages_from (p + 1) n q other in
     (omega (arith, later.0), omega (arith, later.1)))
-    (eqb_tells q p)
+    (Contains-cases q p (pages_from (p + 1) n) h)
 
 -- a page among those of n bytes has one of these bytes
-from_pages_of : (a n q : ℕ) → IsTrue (contains (pages_of a n) q) → (0 < n) × (a / 1024 ≤ q) × (1024 * q < a + n)
-from_pages_of a zero q h = absurd (cc)
+from_pages_of : (a n q : ℕ) → Contains (pages_of a n) q → (0 < n) × (a / 1024 ≤ q) × (1024 * q < a + n)
+from_pages_of a zero q h = absurd (Contains-none q h)
 from_pages_of a (suc n) q h =
     let among = from_pages_from (a / 1024) ((a + n) / 1024 + 1 - a / 1024) q h in
     (omega arith, omega (arith, among.0), omega (arith, among.0, among.1))
 
 -- a page that has one of n bytes is among their pages
-to_pages_of : (a n q : ℕ) → 0 < n → a / 1024 ≤ q → 1024 * q < a + n → IsTrue (contains (pages_of a n) q)
+to_pages_of : (a n q : ℕ) → 0 < n → a / 1024 ≤ q → 1024 * q < a + n → Contains (pages_of a n) q
 to_pages_of a zero q some lo hi = absurd (omega (arith, some))
 to_pages_of a (suc n) q some lo hi = in_pages_from (a / 1024) ((a + n) / 1024 + 1 - a / 1024) q lo (omega (arith, lo, hi))
 
 -- bytes in one page bring this page to the pages of those before
-pages_grow : (a n k q : ℕ) → 0 < k → (a + n) % 1024 + k ≤ 1024 → contains (pages_of a (n + k)) q ≡ (eqb q ((a + n) / 1024) || contains (pages_of a n) q)
+pages_grow : (a n k q : ℕ) → 0 < k → (a + n) % 1024 + k ≤ 1024 → is_among (pages_of a (n + k)) q ≡ (eqb q ((a + n) / 1024) || is_among (pages_of a n) q)
 pages_grow a n k q some fits =
-    same_from_decides {P = IsTrue (contains (pages_of a (n + k)) q)} _ _ (λ h. h, λ h. h) (back, forth)
+    same_from_decides {P = Contains (pages_of a (n + k)) q} _ _ (Contains-from_is_among _ q, is_among-from_Contains _ q) (back, forth)
   where
-    forth : IsTrue (contains (pages_of a (n + k)) q) → IsTrue (eqb q ((a + n) / 1024) || contains (pages_of a n) q)
+    forth : Contains (pages_of a (n + k)) q → IsTrue (eqb q ((a + n) / 1024) || is_among (pages_of a n) q)
     forth h =
         let in_all = from_pages_of a (n + k) q h in
         ⊎_elim
         (λ same. or_left _ _ same.0)
-        (λ other. or_right _ _ (to_pages_of a n q (omega (arith, in_all, other.1, fits)) in_all.1 (omega (arith, in_all, other.1, fits))))
+        (λ other. or_right _ _ (is_among-from_Contains _ q (to_pages_of a n q (omega (arith, in_all, other.1, fits)) in_all.1 (omega (arith, in_all, other.1, fits)))))
         (eqb_tells q ((a + n) / 1024))
 
-    back : IsTrue (eqb q ((a + n) / 1024) || contains (pages_of a n) q) → IsTrue (contains (pages_of a (n + k)) q)
+    back : IsTrue (eqb q ((a + n) / 1024) || is_among (pages_of a n) q) → Contains (pages_of a (n + k)) q
     back h =
         ⊎_elim
         (λ same. to_pages_of a (n + k) q (omega (arith, some)) (omega (arith, same.1)) (omega (arith, same.1, some)))
         (λ other.
-        let before = from_pages_of a n q (rw other.0 at h) in
+        let before = from_pages_of a n q (Contains-from_is_among _ q (rw other.0 at h)) in
         to_pages_of a (n + k) q (omega (arith, some)) before.1 (omega (arith, before.2)))
         (eqb_tells q ((a + n) / 1024))
 
@@ -136,9 +139,9 @@ put_next old mid new address bytes at rest part after before is some fits writte
           stored n ∙ ap (λ (b : Bool). eqb n (at / 1024) || b) (before.stored n)
           ∙ sym (or_assoc (eqb n (at / 1024)) _ _)
           ∙ ap (λ (b : Bool). b || is_some (stored_at old n))
-          (ap (λ (m : ℕ). eqb n (m / 1024) || contains (pages_of address (length before.done)) n) before.reached
+          (ap (λ (m : ℕ). eqb n (m / 1024) || is_among (pages_of address (length before.done)) n) before.reached
           ∙ sym (pages_grow address (length before.done) (length part) n some (rw before.reached at fits))
-          ∙ ap (λ (m : ℕ). contains (pages_of address m) n) (sym long));
+          ∙ ap (λ (m : ℕ). is_among (pages_of address m) n) (sym long));
     }
 
 -- what was put before a want of memory
@@ -159,21 +162,11 @@ stored_so_far old mid new address bytes at rest before kept = record {
   only = λ n is.
       ⊎_elim
       (λ part.
-      let among = from_pages_of address (length before.done) n part in
-      or_left _ _ (to_pages_of address (length bytes) n (omega (arith, among.0, before.reached, before.ends)) among.1 (omega (arith, among.2, before.reached, before.ends))))
+      let among = from_pages_of address (length before.done) n (Contains-from_is_among _ n part) in
+      or_left _ _ (is_among-from_Contains _ n (to_pages_of address (length bytes) n (omega (arith, among.0, before.reached, before.ends)) among.1 (omega (arith, among.2, before.reached, before.ends)))))
       (λ was. or_right _ _ was)
-      (or_split (contains (pages_of address (length before.done)) n) (is_some (stored_at old n)) (sym (before.stored n) ∙ ap (λ (s : Stored). is_some (stored_at s n)) (sym kept) ∙ is));
+      (or_cases (is_among (pages_of address (length before.done)) n) (is_some (stored_at old n)) (sym (before.stored n) ∙ ap (λ (s : Stored). is_some (stored_at s n)) (sym kept) ∙ is));
 }
-
--- where neither of two tests holds, the second fails
-or_false : (a b : Bool) → (a || b) ≡ false → b ≡ false
-or_false true b h = absurd (cc)
-or_false false b h = h
-
--- what has no content is None
-none_from : {A : Type 0} (o : Option A) → is_some o ≡ false → o ≡ None
-none_from None h = refl
-none_from (Some x) h = absurd (cc)
 
 -- the page that isn't stored now wasn't stored at first
 pub absent_at : (old mid : Stored) (address : ℕ) (bytes : List ℕ) (at : ℕ) (rest : List ℕ) → IsPutUpTo old mid address bytes at rest → 0 < length rest
@@ -182,7 +175,7 @@ absent_at old mid address bytes at rest before some absent = (
   at / 1024,
   in_pages_of address (length bytes) at (omega (arith, before.reached)) (omega (arith, before.ends, some)),
   none_from (stored_at old (at / 1024))
-      (or_false (contains (pages_of address (length before.done)) (at / 1024)) _ (sym (before.stored (at / 1024)) ∙ ap is_some absent)),
+      (or_parts (is_among (pages_of address (length before.done)) (at / 1024)) _ (sym (before.stored (at / 1024)) ∙ ap is_some absent)).1,
 )
 
 -- all of the bytes were put
@@ -194,6 +187,6 @@ put_all old new address bytes at (b ∷ rest) before none a = absurd (omega (ari
 
 -- their pages were stored
 pub stored_all : (old new : Stored) (address : ℕ) (bytes : List ℕ) (at : ℕ) (rest : List ℕ) → IsPutUpTo old new address bytes at rest → length rest ≡ 0
-    → (n : ℕ) → is_some (stored_at new n) ≡ (contains (pages_of address (length bytes)) n || is_some (stored_at old n))
+    → (n : ℕ) → is_some (stored_at new n) ≡ (is_among (pages_of address (length bytes)) n || is_some (stored_at old n))
 stored_all old new address bytes at rest before none n =
-    before.stored n ∙ ap (λ (m : ℕ). contains (pages_of address m) n || is_some (stored_at old n)) (omega (arith, before.reached, before.ends, none))
+    before.stored n ∙ ap (λ (m : ℕ). is_among (pages_of address m) n || is_some (stored_at old n)) (omega (arith, before.reached, before.ends, none))

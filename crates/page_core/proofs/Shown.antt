@@ -1,6 +1,7 @@
 -- Bytes of one page, as a memory of pages shows them and as they are put there.
-use Rattle.std.proofs.Common.{◌≡◌, ◌≢◌, ℕ, ◌+◌, ◌-◌, ◌/◌, ◌%◌, ◌<◌, ◌≤◌, List, [], ◌∷◌, ◌++◌, length, get_or, take, drop, sym, ap, ap₂, ◌∙◌, arith, inl, inr, ⊎_elim, get_or-drop, get_or-take, length-append, length-drop}
-use Rattle.std.specs.Int.{w16, w32, from_le_bytes}
+use Rattle.std.proofs.Common.{◌≡◌, ◌≢◌, ℕ, ◌+◌, ◌-◌, ◌/◌, ◌%◌, ◌<◌, ◌≤◌, List, [], ◌∷◌, ◌++◌, length, get_or, take, drop, sym, ap, ap₂, ◌∙◌, arith, inl, inr, ⊎_elim, get_or-drop, get_or-take, length-append, length-drop, ◌*◌, refl}
+use Rattle.std.specs.Int.{w16, w32, from_le_bytes, to_le_bytes}
+use Rattle.std.specs.Prelude.{All}
 use Rattle.std.proofs.lemmas.Bool.{cases_eq}
 use Rattle.std.proofs.lemmas.Bool.Decides.{leb_tells}
 use Rattle.std.proofs.lemmas.List.{append-nil, drop_all, get_or-append-add, get_or_append_left, get_or_default, length-take, length-take-le}
@@ -8,7 +9,7 @@ use Rattle.std.proofs.lemmas.List.Elements.{All-append, All-drop, All-take}
 use Rattle.page_core.specs.Memory.{bytes, put}
 use Rattle.page_core.specs.Pages.{Pages, IsPage}
 use Rattle.page_core.specs.Memories.{flat}
-use Rattle.page_core.proofs.Bytes.{two, four, put-outside, put-inside}
+use Rattle.page_core.proofs.Bytes.{two, four, put-outside, put-inside, length-bytes, get_or-bytes}
 
 -- ---- reading
 -- a byte of the page in which an address lies
@@ -43,6 +44,14 @@ pub word_shown : (pages : Pages) (a w : ℕ) → a % 4 ≡ 0
     → w ≡ from_le_bytes w32 (get_or (pages (a / 1024)) (a % 1024) 0 ∷ get_or (pages (a / 1024)) (a % 1024 + 1) 0 ∷ get_or (pages (a / 1024)) (a % 1024 + 2) 0 ∷ get_or (pages (a / 1024)) (a % 1024 + 3) 0 ∷ [])
     → w ≡ from_le_bytes w32 (bytes (flat pages) a 4)
 word_shown pages a w aligned is = is ∙ ap (from_le_bytes w32) (sym (four_shown pages a aligned))
+
+-- the bytes of the word at an aligned address are below 256, where its page is one
+pub bytes_small : (pages : Pages) (a : ℕ) → a % 4 ≡ 0 → IsPage (pages (a / 1024)) → All (λ byte. byte < 256) (bytes (flat pages) a 4)
+bytes_small pages a aligned is k d within =
+    let low : k < 4 = omega (arith, within, length-bytes (flat pages) a 4) in
+    let read : get_or (bytes (flat pages) a 4) k d ≡ get_or (pages (a / 1024)) (a % 1024 + k) 0 =
+    get_or_default (bytes (flat pages) a 4) k d 0 within ∙ get_or-bytes (flat pages) a 4 k low ∙ byte_shown pages a k (omega (arith, low, aligned)) in
+    omega (arith, read, is.1 (a % 1024 + k) 0 (omega (arith, is.0)))
 
 -- ---- writing
 -- the bytes of a page in which others were put at a place

@@ -1,6 +1,6 @@
 -- A finite map of stored pages, and the memory that it stands for.
-use Rattle.std.specs.Prelude.{◌≡◌, ⊤, ℕ, ◌+◌, ◌<◌, ◌≤◌, ◌==◌, ◌||◌, leb, if◌then◌else◌, List, [], ◌∷◌, IsTrue, Option, Some, None, is_some, unwrap_or}
-use Rattle.page_core.specs.Memory.{contains}
+use Rattle.std.specs.Prelude.{◌≡◌, ⊤, ℕ, ◌+◌, ◌<◌, ◌≤◌, ◌==◌, ◌||◌, leb, if◌then◌else◌, List, [], ◌∷◌, Contains, IsTrue, Option, Some, None, is_some, unwrap_or}
+use Rattle.page_core.specs.Memory.{is_among}
 use Rattle.page_core.specs.Pages.{Pages, IsPage, zero_page}
 use Rattle.page_core.specs.Memories.{flat}
 
@@ -38,8 +38,8 @@ StoresAlso number old new = (n : ℕ) → is_some (stored_at new n) ≡ (n == nu
 -- each page that was stored is stored, and each that is stored now was stored or is one of these
 pub record StoresSome (pages : List ℕ) (old new : Stored) : Type 0 where
   pub kept : (n : ℕ) → IsTrue (is_some (stored_at old n)) → IsTrue (is_some (stored_at new n))
-  pub only : (n : ℕ) → IsTrue (is_some (stored_at new n)) → IsTrue (contains pages n || is_some (stored_at old n))
+  pub only : (n : ℕ) → IsTrue (is_some (stored_at new n)) → IsTrue (is_among pages n || is_some (stored_at old n))
 
 -- one of these pages isn't stored
 abbrev pub IsAbsentAmong : List ℕ → Stored → Type 0
-IsAbsentAmong pages stored = (number : ℕ) × IsTrue (contains pages number) × (stored_at stored number ≡ None)
+IsAbsentAmong pages stored = (number : ℕ) × Contains pages number × (stored_at stored number ≡ None)

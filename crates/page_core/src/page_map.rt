@@ -1,6 +1,6 @@
 ghost use Rattle.std.specs.Prelude.{◌≡◌, ◌≢◌, ◌⊎◌, ◌||◌, is_some, ℕ, ◌+◌, ◌%◌, ◌/◌, ◌<◌, ◌≤◌, [], ◌∷◌, ◌++◌, length, take, drop, OnOk, OnErr, option_map};
 ghost use Rattle.std.specs.Int.{w16, w32, to_le_bytes, from_le_bytes};
-ghost use Rattle.page_core.specs.Memory.{bytes, put, contains, pages_of};
+ghost use Rattle.page_core.specs.Memory.{bytes, put, pages_of, is_among};
 ghost use Rattle.page_core.specs.Stored.{IsStoredFrom, stored_at, first_from, stored_pages, memory_of, StoresAlso, StoresSome, IsAbsentAmong};
 
 use crate::Page;
@@ -156,7 +156,7 @@ impl PageMap {
     pub fn set_bytes(&mut self, address: u32, bytes: &[u8]) -> Result<(), AllocError>
         requires { address + length bytes.now ≤ 268435456 }
         ensures written { OnOk result ((a : ℕ) → memory_of self.new a ≡ put (memory_of self.old) address bytes.now a) }
-        ensures stored { OnOk result ((n : ℕ) → is_some (stored_at self.new n) ≡ (contains (pages_of address (length bytes.now)) n || is_some (stored_at self.old n))) }
+        ensures stored { OnOk result ((n : ℕ) → is_some (stored_at self.new n) ≡ (is_among (pages_of address (length bytes.now)) n || is_some (stored_at self.old n))) }
         ensures torn { OnErr result ((a : ℕ) → (memory_of self.new a ≡ memory_of self.old a) ⊎ (memory_of self.new a ≡ put (memory_of self.old) address bytes.now a)) }
         ensures stored_some { OnErr result (StoresSome (pages_of address (length bytes.now)) self.old self.new) }
         ensures absent { OnErr result (IsAbsentAmong (pages_of address (length bytes.now)) self.old) }

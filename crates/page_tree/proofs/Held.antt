@@ -1,12 +1,12 @@
 -- A tree that holds the pages of a memory has the digests of its nodes.
-use Rattle.std.proofs.Common.{◌≡◌, ◌≢◌, inl, inr, ℕ, zero, suc, ◌+◌, ◌-◌, ◌*◌, ◌/◌, ◌%◌, ◌^◌, ◌<◌, ◌≤◌, true, false, cond, eqb, List, [], ◌∷◌, ◌++◌, Option, Some, None, refl, sym, ap, ap₂, subst, ◌∙◌, arith}
+use Rattle.std.proofs.Common.{◌≡◌, ◌≢◌, inl, inr, ℕ, zero, suc, ◌+◌, ◌-◌, ◌*◌, ◌/◌, ◌%◌, ◌^◌, ◌≤◌, true, false, cond, eqb, List, [], ◌∷◌, ◌++◌, Option, Some, None, refl, sym, ap, ap₂, subst, ◌∙◌, arith}
+use Rattle.page_core.proofs.Options.{option_or-none}
 use Rattle.std.specs.Prelude.{unwrap_or}
 use Rattle.std.specs.Option.{option_or}
 use Rattle.std.proofs.lemmas.Bool.Decides.{eqb_tells}
-use Rattle.std.proofs.lemmas.List.{length-replicate}
-use Rattle.std.proofs.lemmas.List.Elements.{All-replicate}
 use Rattle.std.proofs.lemmas.Nat.{shr-shr}
 use Rattle.page_core.specs.Pages.{Pages, IsPage, zero_page}
+use Rattle.page_core.proofs.Zeros.{zeros_are}
 use Rattle.page_core.specs.Stored.{Stored, stored_at, stored_pages}
 use Rattle.part_tree.specs.Tree.{node, node_string, IsBelow}
 use Rattle.part_tree.proofs.Below.{below_left, below_right, below_one, below_itself, side_left, side_right}
@@ -19,19 +19,11 @@ at_append (p ∷ ps) ys n =
     elim (eqb n p.0) as (λ b. cond b (Some p.1) (stored_at (ps ++ ys) n) ≡ option_or (cond b (Some p.1) (stored_at ps n)) (stored_at ys n))
     [ true ↦ refl | false ↦ at_append ps ys n ]
 
-or_none : (o : Option (List ℕ)) → option_or o None ≡ o
-or_none None = refl
-or_none (Some x) = refl
-
 -- one stored page is found under its number
 pub at_one : (i : ℕ) (page : List ℕ) → stored_at ((i, page) ∷ []) i ≡ Some page
 at_one i page = elim (eqb_tells i i) [ inl same ↦ ap (λ b. cond b (Some page) None) same.0 | inr other ↦ absurd (other.1 refl) ]
 
--- a page of zeros is a page, and so is one of two
-pub zeros_are : IsPage zero_page
-unfolding zero_page
-zeros_are = (length-replicate {A = ℕ} 1024 0, All-replicate (λ (b : ℕ). b < 256) 1024 0 (omega arith))
-
+-- one of two pages is a page
 either_is : (a b : Option (List ℕ)) → IsPage (unwrap_or a zero_page) → IsPage (unwrap_or b zero_page) → IsPage (unwrap_or (option_or a b) zero_page)
 either_is None b first second = second
 either_is (Some page) b first second = first
@@ -89,7 +81,7 @@ module _ (H : List ℕ → List ℕ) where
   at_left h i number digest left right grown b =
       at_append (stored_in (2 * i) left) (stored_in (2 * i + 1) right) number
       ∙ ap (option_or (stored_at (stored_in (2 * i) left) number)) (absent h (2 * i + 1) number right grown (λ c. below_one h i number b c))
-      ∙ or_none (stored_at (stored_in (2 * i) left) number)
+      ∙ option_or-none (stored_at (stored_in (2 * i) left) number)
 
   pub at_right : (h i number : ℕ) (digest : List ℕ) (left right : Grown) → IsGrown H h left → IsBelow h (2 * i + 1) number
       → stored_at (stored_in i (fork digest left right)) number ≡ stored_at (stored_in (2 * i + 1) right) number

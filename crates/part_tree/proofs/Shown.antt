@@ -1,7 +1,8 @@
 -- What a part tree that agrees with a memory shows of its bytes.
-use Rattle.std.proofs.Common.{◌≡◌, ◌⊎◌, inl, inr, ℕ, zero, suc, ◌+◌, ◌*◌, ◌/◌, ◌%◌, ◌==◌, Bool, true, false, List, get_or, Option, Some, None, refl, sym, ap, ap₂, ◌∙◌, arith}
-use Rattle.std.specs.Prelude.{Contains, unwrap_or, IsSome, if◌then◌else◌}
+use Rattle.std.proofs.Common.{◌≡◌, ◌⊎◌, inl, inr, ℕ, zero, suc, ◌+◌, ◌*◌, ◌/◌, ◌%◌, ◌==◌, true, List, get_or, Option, Some, None, refl, sym, ap, ap₂, ◌∙◌, arith}
+use Rattle.std.specs.Prelude.{Contains, unwrap_or, IsSome}
 use Rattle.std.specs.Option.{option_or}
+use Rattle.std.proofs.lemmas.Option.{cond_some}
 use Rattle.std.proofs.lemmas.Bool.Decides.{nat_tests}
 use Rattle.std.proofs.lemmas.List.Elements.{Contains-append_left, Contains-append_right}
 use Rattle.page_core.specs.Pages.{zero_page}
@@ -9,14 +10,9 @@ use Rattle.part_tree.specs.Part.{Part, pruned, branch, leaf, page_at, opened, fi
 use Rattle.part_tree.proofs.Pages.{opened_open}
 use Rattle.page_core.specs.Memory.{Agree as AgreeBytes}
 use Rattle.page_core.proofs.Bytes.{flat-page_of}
-use Rattle.page_core.proofs.Listed.{contains_tells}
 use Rattle.page_core.specs.Memories.{page_of, flat}
 
 -- ---- the pages of a tree that agrees
-pub chosen : (b : Bool) (x y : List ℕ) → (if b then Some x else None) ≡ Some y → (b ≡ true) × (x ≡ y)
-chosen true x y e = (refl, cc)
-chosen false x y e = absurd (cc)
-
 pub of_either : (a b : Option (List ℕ)) (x : List ℕ) → option_or a b ≡ Some x → (a ≡ Some x) ⊎ (b ≡ Some x)
 of_either (Some y) b x e = inl e
 of_either None b x e = inr e
@@ -33,7 +29,7 @@ page_agrees H m (suc h) i p (branch left right) page agree e =
       | inr r ↦ page_agrees H m h (2 * i + 1) p right page agree.1 r
     ]
 page_agrees H m zero i p (leaf own) page agree e =
-    let (b, same) = chosen (p == i) own page e in sym same ∙ agree ∙ ap m (sym (same_page p i b))
+    let (b, same) = cond_some (p == i) own page e in sym same ∙ agree ∙ ap m (sym (same_page p i b))
 page_agrees H m (suc h) i p (leaf own) page agree e = absurd agree
 
 -- what is open in the tree is filled with the memory's bytes
@@ -45,7 +41,7 @@ filled m a None some same = absurd (cc)
 pub tree_shows : (H : List ℕ → List ℕ) (m : ℕ → ℕ) (t : Part) → Agree H (page_of m) 18 0 t → AgreeBytes (opened 0 t) (flat (fill t)) m
 tree_shows H m t agree = record {
   at = λ a c.
-      filled m a (page_at 0 t (a / 1024)) (opened_open 0 t (a / 1024) (contains_tells (opened 0 t) (a / 1024) c))
+      filled m a (page_at 0 t (a / 1024)) (opened_open 0 t (a / 1024) c)
       (λ page e. page_agrees H (page_of m) 18 0 (a / 1024) t page agree e);
 }
 

@@ -1,5 +1,6 @@
 -- The first node at which a part tree and a memory split.
 use Rattle.std.proofs.Common.{◌≡◌, ◌⊎◌, inl, inr, ℕ, zero, suc, ◌+◌, ◌*◌, Bool, true, false, cond, List, [], ◌++◌, length, Option, Some, None, refl, sym, ap, ap₂, ◌∙◌}
+use Rattle.page_core.proofs.Options.{both_none}
 use Rattle.std.specs.Prelude.{Contains}
 use Rattle.std.specs.Str.{bytes_eq}
 use Rattle.std.proofs.lemmas.Bool.Decides.{not_from_Decides}
@@ -19,10 +20,6 @@ pub length-root_of : (H : List ℕ → List ℕ) → ((x : List ℕ) → IsDiges
 length-root_of H is_digest h (pruned digest) shape = shape.0
 length-root_of H is_digest h (branch left right) shape = (is_digest (root_of H left ++ root_of H right)).0
 length-root_of H is_digest h (leaf page) shape = (is_digest page).0
-
-pub both_none : {A : Type 0} (a b : Option A) → a ≡ None → b ≡ None → option_or a b ≡ None
-both_none (Some x) b h k = absurd (cc)
-both_none None b h k = k
 
 pub differ_same : (x y : List ℕ) → x ≡ y → differ x y ≡ None
 differ_same x y e = ap (λ (b : Bool). cond b None (Some (record { left = x; right = y }))) ((bytes_eq-Decides x y).1 e)

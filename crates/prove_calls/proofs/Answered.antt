@@ -1,5 +1,6 @@
 -- The answers, from what is answered of the guest in two files.
 use Rattle.std.proofs.Common.{◌≡◌, ◌⊎◌, ⊎_elim, ℕ, inl, inr, List, Option, Some, None, Ok, Err, refl, sym, ap, subst, ◌∙◌}
+use Rattle.cli_text.proofs.Ended.{not_refused, not_words, not_no_file, not_too_long, not_bad_file}
 use Rattle.std.specs.Prelude.{string_bytes}
 use Rattle.std.specs.Io.KnownBytes.{append_known}
 use Rattle.outside.specs.Files.{Files}
@@ -125,21 +126,6 @@ module _ (H : List ℕ → List ℕ) (proof : Proof) where
       )
 
 -- ---- a status of 0
-not_refused : {A : Type 0} → Done ≡ Refused → A
-not_refused e = absurd (cc)
-
-not_words : {A : Type 0} → Done ≡ Words → A
-not_words e = absurd (cc)
-
-not_no_file : {A : Type 0} → Done ≡ NoFile → A
-not_no_file e = absurd (cc)
-
-not_too_long : {A : Type 0} → Done ≡ TooLong → A
-not_too_long e = absurd (cc)
-
-not_bad_file : {A : Type 0} → Done ≡ BadFile → A
-not_bad_file e = absurd (cc)
-
 read_done : {A : Type 0} → (limit : ℕ) (name : List ℕ) (held : Option (List ℕ)) (lines : List ℕ) → NotRead limit name held Done lines → A
 read_done limit name None lines unread = not_no_file unread.0
 read_done limit name (Some bytes) lines unread = not_too_long unread.1

@@ -6,6 +6,5 @@ pub mod Reading
 pub mod Receiving
 pub mod Answered
 pub mod Calls
-pub mod Images
 pub mod Proved
 pub mod Ended

@@ -1,11 +1,9 @@
 -- What words and their digits tell.
-use Rattle.std.proofs.Common.{◌≡◌, ℕ, ◌^◌, ◌<◌, ◌≤◌, ◌-◌, Option, Some, None, subst, Bool, true, false, not, eqb, List, [], ◌∷◌, length, drop, take, get_or, Ok, Err, Result, sym, ap, ◌∙◌, arith}
+use Rattle.std.proofs.Common.{◌≡◌, ℕ, ◌^◌, ◌<◌, ◌≤◌, ◌-◌, Option, Some, None, subst, Bool, true, false, eqb, List, [], ◌∷◌, length, drop, take, get_or, Ok, Err, Result, sym, ap, ◌∙◌, arith}
+use Rattle.std.proofs.lemmas.Bool.{false≢true, eqb-true}
 use Rattle.std.specs.Prelude.{decimal, IfSome, IfNone}
-use Rattle.std.specs.Str.{bytes_eq}
 use Rattle.std.proofs.lemmas.Fmt.{decimal_injective}
-use Rattle.std.proofs.lemmas.Bool.{eqb-true}
 use Rattle.std.proofs.lemmas.List.{nil_from_length, take_rest}
-use Rattle.std.proofs.lemmas.Slice.Eq.{bytes_eq-Decides}
 
 pub ok_not_err : {E : Type 0} (n : ℕ) (e : E) → ◌≡◌ {A = Result ℕ E} (Ok n) (Err e) → ⊥
 ok_not_err n e h = cc
@@ -22,22 +20,6 @@ told_same word o m n some is small told =
 pub none_then : {T : Type 0} {A B : Type 0} → (o : Option T) → (A → B) → IfNone o A → IfNone o B
 none_then None f a = f a
 none_then (Some x) f a = tt
-
-pub not_other : (x y : List ℕ) (b : Bool) → b ≡ not (bytes_eq x y) → b ≡ true → x ≡ y → ⊥
-not_other x y b is other same = false_not_true (sym (is ∙ ap not ((bytes_eq-Decides x y).1 same)) ∙ other)
-  where
-    false_not_true : false ≡ true → ⊥
-    false_not_true h = cc
-
-pub same_bytes : (x y : List ℕ) (b : Bool) → b ≡ not (bytes_eq x y) → b ≡ false → x ≡ y
-same_bytes x y b is e = go (bytes_eq x y) (λ i. bytes_eq x y)
-  where
-    false_not_true : {A : Type 0} → false ≡ true → A
-    false_not_true h = absurd (cc)
-
-    go : (t : Bool) → bytes_eq x y ≡ t → x ≡ y
-    go true f = (bytes_eq-Decides x y).0 f
-    go false f = false_not_true (sym e ∙ is ∙ ap not f)
 
 -- a list of four items
 pub four_items : {A : Type 0} (xs : List A) (a b c d : A) → length xs ≡ 4 → a ≡ get_or xs 0 a → b ≡ get_or xs 1 b → c ≡ get_or xs 2 c → d ≡ get_or xs 3 d → xs ≡ a ∷ b ∷ c ∷ d ∷ []
@@ -86,10 +68,7 @@ pub same_names : {A : Type 0} (a b c d e f g h a' b' c' d' e' f' g' h' : A) (res
 same_names a b c d e f g h a' b' c' d' e' f' g' h' rest rest' is = record { first = cc; second = cc; third = cc; others = cc }
 
 pub not_empty : {A : Type 0} (b : Bool) (x : List A) → b ≡ eqb (length x) 0 → b ≡ false → x ≡ [] → ⊥
-not_empty {A} b x is e none = false_not_true (sym e ∙ is ∙ ap (λ (y : List A). eqb (length y) 0) none)
-  where
-    false_not_true : false ≡ true → ⊥
-    false_not_true h = cc
+not_empty {A} b x is e none = false≢true (sym e ∙ is ∙ ap (λ (y : List A). eqb (length y) 0) none)
 
 pub is_empty : {A : Type 0} (b : Bool) (x : List A) → b ≡ eqb (length x) 0 → b ≡ true → x ≡ []
 is_empty b x is e = nil_from_length x (eqb-true (length x) 0 (sym is ∙ e))

@@ -33,7 +33,7 @@ use Rattle.cli_text.specs.Reports.{proved_lines}
 use Rattle.prove_calls.specs.Words.{receipt_limit}
 use Rattle.prove_calls.specs.Lines.{unresolved_lines}
 use Rattle.prove_calls.specs.Proving.{bundle_with, IsReceipt, IsJudged}
-use Rattle.prove_calls.proofs.Images.{start_root}
+use Rattle.check_core.proofs.Images.{start_root}
 use Rattle.prove_calls.proofs.Calls.{calls_within}
 
 -- no more seals than segments

@@ -1,5 +1,6 @@
 -- The other receipts that were read, one after the other. H is the digest function.
 use Rattle.std.proofs.Common.{◌≡◌, ℕ, ◌+◌, ◌<◌, ◌≤◌, map, List, [], ◌∷◌, ◌++◌, length, take, drop, get_or, inl, inr, ◌⊎◌, Option, Some, None, Bool, true, false, Ok, Err, Result, refl, sym, ap, subst, ◌∙◌}
+use Rattle.std.proofs.lemmas.Bool.{true≢false}
 use Rattle.std.specs.Prelude.{IfSome, OnOk, is_err, string_bytes}
 use Rattle.std.specs.List.{AllZip}
 use Rattle.std.proofs.lemmas.List.{map-append, take_more, take_all, take-append-drop, drop_more, length-map}
@@ -61,12 +62,9 @@ pub unread_other : (H : List ℕ → List ℕ) (place : ℕ) (name : List ℕ) (
 unread_other H place name None printed of status = (unread_bad printed.status status, tt)
 unread_other H place name (Some files) printed of status = (unread_bad printed.status status, inl of.1)
 
-true_not_false : {A : Type 0} → true ≡ false → A
-true_not_false h = absurd (cc)
-
 pub if_pushed : {T E : Type 0} {P : Type 0} → (r : Result T E) (b : Bool) → b ≡ is_err r → b ≡ false → OnOk r P → P
 if_pushed (Ok x) b is pushed p = p
-if_pushed (Err e) b is pushed p = true_not_false (sym is ∙ pushed)
+if_pushed (Err e) b is pushed p = absurd (true≢false (sym is ∙ pushed))
 
 module _ {W : Type 0} (text : W → List ℕ) (H : List ℕ → List ℕ) (told : Option Files) (words : List W) where
   abbrev pub names_of : List W → List (List ℕ)

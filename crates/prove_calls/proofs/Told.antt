@@ -3,7 +3,7 @@ use Rattle.std.proofs.Common.{◌≡◌, ℕ, ◌+◌, List, length, sym, ap, ap
 use Rattle.page_core.specs.Images.{Image}
 use Rattle.rv_step.specs.Machine.{State}
 use Rattle.rv_step.specs.Runs.{start, after, spent}
-use Rattle.rv_step.proofs.Runs.{same_some}
+use Rattle.std.proofs.lemmas.Option.{same_Some}
 use Rattle.rv_step.specs.declared.outcome.Outcome.TheVariants.{Halted, Faulted, OverLimit}
 use Rattle.rv_isa.specs.declared.fault.Fault.{Fault}
 use Rattle.flat_machine.specs.Going.{Going, state_of, EndsSo}
@@ -16,7 +16,7 @@ module _ (g : Going) (image : Image) (words : List ℕ) (limit : ℕ) (status : 
   pub halted_told : (code : ℕ) → EndsSo g image words limit (Halted code) → status ≡ Done → lines ≡ halted_lines code g.steps g.cycles g.journal (length g.calls) → IsExecuted image words limit status lines
   halted_told code e is text =
       let s = start image words in
-      let state : state_of g ≡ e.ends.state = same_some (state_of g) e.ends.state (sym e.stands.reached ∙ ap (after s) e.reached ∙ e.ends.reached) in
+      let state : state_of g ≡ e.ends.state = same_Some (state_of g) e.ends.state (sym e.stands.reached ∙ ap (after s) e.reached ∙ e.ends.reached) in
       let cycles : g.cycles ≡ spent s (e.ends.step + 1) = e.stands.cost ∙ ap (spent s) e.steps in
       record {
         outcome = Halted code;

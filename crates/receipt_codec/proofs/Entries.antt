@@ -1,5 +1,6 @@
 -- The parts of an entry, and lists of entries.
 use Rattle.std.proofs.Common.{◌≡◌, ℕ, ◌+◌, ◌^◌, ◌<◌, ◌≤◌, List, [], ◌∷◌, ◌++◌, length, All, refl, sym, ap, subst, ◌∙◌, append_assoc, length-append, arith}
+use Rattle.receipt_types.proofs.Limits.{AllSealLimits-push}
 use Rattle.std.specs.Int.{w16, w32, to_le_bytes, from_le_bytes}
 use Rattle.std.specs.List.{flat_map}
 use Rattle.std.proofs.lemmas.Nat.{from_le_bytes-to_le_bytes_2}
@@ -53,18 +54,13 @@ pub seal_fits : (at : ℕ) (seals : List Seal) → AllSealLimits seals → FitFr
 seal_fits at [] keep = tt
 seal_fits at (seal ∷ seals) keep = (keep.0, seal_fits (at + 1) seals keep.1)
 
--- with one more at the end
-pub seals_one_more : (seals : List Seal) (seal : Seal) → AllSealLimits seals → SealLimits seal → AllSealLimits (seals ++ seal ∷ [])
-seals_one_more [] seal keep limits = (limits, tt)
-seals_one_more (first ∷ seals) seal keep limits = (keep.0, seals_one_more seals seal keep.1 limits)
-
 -- seals that were read, and the next
 pub sealed_one_more : (many : ℕ) (seals all : List Seal) (seal : Seal) (bytes after more : List ℕ) → AreSealed many seals → SealLimits seal → all ≡ seals ++ seal ∷ []
     → bytes ≡ flat_map seal_bytes seals ++ after → after ≡ seal_bytes seal ++ more → AreSealed (many + 1) all × (bytes ≡ flat_map seal_bytes all ++ more)
 sealed_one_more many seals all seal bytes after more sealed limits is spelled next = (
   record {
     long = omega (arith, ap length is, length-append seals (seal ∷ []), sealed.long);
-    limits = subst (λ (s : List Seal). AllSealLimits s) (sym is) (seals_one_more seals seal sealed.limits limits);
+    limits = subst (λ (s : List Seal). AllSealLimits s) (sym is) (AllSealLimits-push seals seal sealed.limits limits);
   },
   spelled_one_more seal_bytes seals seal bytes after more spelled next ∙ ap (λ (s : List Seal). flat_map seal_bytes s ++ more) (sym is),
 )

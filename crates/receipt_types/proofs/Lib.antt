@@ -1,2 +1,3 @@
 pub mod Form
 pub mod Rules
+pub mod Limits

@@ -9,7 +9,7 @@ use Rattle.digest_core.specs.Digests.{IsDigest}
 use Rattle.host_calls.specs.declared.call.AssumeCall.{AssumeCall}
 use Rattle.claim_types.specs.Claims.{ok_digest, ok_string}
 use Rattle.receipt_types.specs.Bundles.{Entry, Bundle, item}
-use Rattle.rv_step.proofs.Runs.{same_some}
+use Rattle.std.proofs.lemmas.Option.{same_Some}
 use Rattle.lift_join.specs.Joins.{chain_of}
 use Rattle.lift_join.specs.Chained.{Chained}
 use Rattle.check_core.specs.Entries.{first_of, digest_or_none, digest_in}
@@ -35,7 +35,7 @@ item_right (x ∷ xs) ys l =
 
 item_map : (f : Entry → Entry) (xs : List Entry) (l : ℕ) (x : Entry) → item xs l ≡ Some x → item (map f xs) l ≡ Some (f x)
 item_map f [] l x h = absurd (cc)
-item_map f (y ∷ xs) zero x h = ap Some (ap f (same_some y x h))
+item_map f (y ∷ xs) zero x h = ap Some (ap f (same_Some y x h))
 item_map f (y ∷ xs) (suc l) x h = item_map f xs l x h
 
 -- ---- links that are raised lead to the same claims
@@ -93,14 +93,11 @@ found_at H digest k (entry ∷ entries) l h = go (bytes_eq digest (digest_or_non
     go : (b : Bool) → bytes_eq digest (digest_or_none H (chain_of H entry.seals)) ≡ b → cond b (Some k) (first_with H digest (k + 1) entries) ≡ Some l
         → (first_with H digest (k + 1) entries ≡ Some l → (j : ℕ) × (l ≡ k + 1 + j) × (digest ≡ digest_in H entries j))
         → (j : ℕ) × (l ≡ k + j) × (digest ≡ digest_in H (entry ∷ entries) j)
-    go true e g rest = let same : k ≡ l = same_number k l g in (0, omega (arith, same), same_bytes digest (digest_or_none H (chain_of H entry.seals)) e)
-      where
-        same_number : (m n : ℕ) → Some m ≡ Some n → m ≡ n
-        same_number m n f = cc
+    go true e g rest = let same : k ≡ l = same_Some k l g in (0, omega (arith, same), same_bytes digest (digest_or_none H (chain_of H entry.seals)) e)
     go false e g rest = let (j, at, is) = rest g in (suc j, omega (arith, at), is)
 
 links_answer : (H : List ℕ → List ℕ) (entry : Entry) (entries : List Entry) (calls : List AssumeCall) (links : List ℕ) → links_for H entries calls ≡ Some links → Answered H (entry ∷ entries) calls links
-links_answer H entry entries [] links h = subst (λ (ls : List ℕ). Answered H (entry ∷ entries) [] ls) (same_some [] links h) tt
+links_answer H entry entries [] links h = subst (λ (ls : List ℕ). Answered H (entry ∷ entries) [] ls) (same_Some [] links h) tt
 links_answer H entry entries (call ∷ calls) links h =
     let l = has_links (first_with H (ok_digest H call) 1 entries) (links_for H entries calls) links h in
     let (j, at, is) = found_at H (ok_digest H call) 1 entries l.link l.is_link in
@@ -122,7 +119,7 @@ resolved_parts H proved others B h = go (links_for H (placed 1 others) proved.cl
   where
     go : (o : Option (List ℕ)) → links_for H (placed 1 others) proved.claim.calls ≡ o
         → option_map (λ (links : List ℕ). entry_zero proved links ∷ placed 1 others) o ≡ Some B → ResolvedParts H proved others B
-    go (Some links) e g = record { links = links; linked = e; is = same_some _ B g }
+    go (Some links) e g = record { links = links; linked = e; is = same_Some _ B g }
     go None e g = absurd (cc)
 
 pub parts_resolved : (H : List ℕ → List ℕ) (proved : Chained) (others : List Bundle) (B : Bundle) (links : List ℕ) → links_for H (placed 1 others) proved.claim.calls ≡ Some links

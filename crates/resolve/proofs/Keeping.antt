@@ -8,7 +8,7 @@ use Rattle.host_calls.specs.declared.call.AssumeCall.{AssumeCall}
 use Rattle.claim_types.specs.Claims.{ok_digest}
 use Rattle.receipt_types.specs.Bundles.{Entry, Bundle}
 use Rattle.receipt_types.specs.Limits.{AllEntryLimits, KeepsLimits}
-use Rattle.rv_step.proofs.Runs.{same_some}
+use Rattle.std.proofs.lemmas.Option.{same_Some}
 use Rattle.lift_join.specs.Joins.{chain_of}
 use Rattle.check_core.specs.Entries.{digest_or_none}
 use Rattle.resolve.specs.Bundling.{raised, placed, first_with, links_for}
@@ -23,21 +23,18 @@ first_within H digest k (entry ∷ entries) l h = go (bytes_eq digest (digest_or
   where
     go : (b : Bool) → cond b (Some k) (first_with H digest (k + 1) entries) ≡ Some l → (first_with H digest (k + 1) entries ≡ Some l → (k + 1 ≤ l) × (l < k + 1 + length entries))
         → (k ≤ l) × (l < k + suc (length entries))
-    go true g rest = let same : k ≡ l = same_number k l g in (omega (arith, same), omega (arith, same))
-      where
-        same_number : (m n : ℕ) → Some m ≡ Some n → m ≡ n
-        same_number m n f = cc
+    go true g rest = let same : k ≡ l = same_Some k l g in (omega (arith, same), omega (arith, same))
     go false g rest = let (above, below) = rest g in (omega (arith, above), omega (arith, below))
 
 module _ (H : List ℕ → List ℕ) (entries : List Entry) where
   links_long : (calls : List AssumeCall) (links : List ℕ) → links_for H entries calls ≡ Some links → length links ≡ length calls
-  links_long [] links h = ap length (sym (same_some [] links h))
+  links_long [] links h = ap length (sym (same_Some [] links h))
   links_long (call ∷ calls) links h =
       let l = has_links (first_with H (ok_digest H call) 1 entries) (links_for H entries calls) links h in
       ap length l.is ∙ ap suc (links_long calls l.rest l.is_rest)
 
   links_within : (n : ℕ) → suc (length entries) ≡ n → (calls : List AssumeCall) (links : List ℕ) → links_for H entries calls ≡ Some links → All (λ link. (0 < link) × (link < n)) links
-  links_within n size [] links h = subst (All (λ link. (0 < link) × (link < n))) (same_some [] links h) (All-nil (λ link. (0 < link) × (link < n)))
+  links_within n size [] links h = subst (All (λ link. (0 < link) × (link < n))) (same_Some [] links h) (All-nil (λ link. (0 < link) × (link < n)))
   links_within n size (call ∷ calls) links h =
       let l = has_links (first_with H (ok_digest H call) 1 entries) (links_for H entries calls) links h in
       let (above, below) = first_within H (ok_digest H call) 1 entries l.link l.is_link in

@@ -5,7 +5,7 @@ use Rattle.std.specs.List.{All}
 use Rattle.std.proofs.lemmas.List.{take_more, take_all, drop_more, length_push}
 use Rattle.std.proofs.lemmas.List.Elements.{All-nil, All-push}
 use Rattle.host_calls.specs.declared.call.AssumeCall.{AssumeCall}
-use Rattle.rv_step.proofs.Runs.{same_some}
+use Rattle.std.proofs.lemmas.Option.{same_Some}
 use Rattle.claim_types.specs.Claims.{ok_digest}
 use Rattle.receipt_types.specs.Bundles.{Entry}
 use Rattle.resolve.specs.Bundling.{first_with, with_first, links_for}
@@ -21,7 +21,7 @@ pub record HasLinks (first : Option ℕ) (others : Option (List ℕ)) (links : L
   pub is : links ≡ link ∷ rest
 
 pub has_links : (first : Option ℕ) (others : Option (List ℕ)) (links : List ℕ) → with_first first others ≡ Some links → HasLinks first others links
-has_links (Some link) (Some rest) links h = record { link = link; rest = rest; is_link = refl; is_rest = refl; is = sym (same_some (link ∷ rest) links h) }
+has_links (Some link) (Some rest) links h = record { link = link; rest = rest; is_link = refl; is_rest = refl; is = sym (same_Some (link ∷ rest) links h) }
 has_links (Some link) None links h = absurd (cc)
 has_links None others links h = absurd (cc)
 
@@ -30,7 +30,7 @@ module _ (H : List ℕ → List ℕ) (entries : List Entry) where
   links_more : (calls : List AssumeCall) (links : List ℕ) (call : AssumeCall) (link : ℕ) → links_for H entries calls ≡ Some links → first_with H (ok_digest H call) 1 entries ≡ Some link
       → links_for H entries (calls ++ call ∷ []) ≡ Some (links ++ link ∷ [])
   links_more [] links call link h found =
-      ap (λ (o : Option ℕ). with_first o (Some [])) found ∙ ap (λ (ls : List ℕ). Some (ls ++ link ∷ [])) (same_some [] links h)
+      ap (λ (o : Option ℕ). with_first o (Some [])) found ∙ ap (λ (ls : List ℕ). Some (ls ++ link ∷ [])) (same_Some [] links h)
   links_more (x ∷ calls) links call link h found =
       let l = has_links (first_with H (ok_digest H x) 1 entries) (links_for H entries calls) links h in
       ap₂ with_first l.is_link (links_more calls l.rest call link l.is_rest found) ∙ ap (λ (ls : List ℕ). Some (ls ++ link ∷ [])) (sym l.is)

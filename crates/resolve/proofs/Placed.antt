@@ -4,7 +4,7 @@ use Rattle.std.specs.Prelude.{option_map, option_and_then}
 use Rattle.std.specs.List.{All}
 use Rattle.std.proofs.lemmas.List.{take_all, take-append-drop, map_more, map-append, length-map, append-nil}
 use Rattle.std.proofs.lemmas.List.Elements.{All-nil, All-cons, All-weaker}
-use Rattle.rv_step.proofs.Runs.{same_some}
+use Rattle.std.proofs.lemmas.Option.{same_Some}
 use Rattle.claim_types.specs.Claims.{SpanClaim}
 use Rattle.receipt_types.specs.Bundles.{Entry, Bundle}
 use Rattle.receipt_types.specs.Limits.{AllEntryLimits}
@@ -73,7 +73,7 @@ module _ (H : List ℕ → List ℕ) where
     is : all ≡ first ∷ rest
 
   has_reports : (o : Option EntryReport) (p : Option (List EntryReport)) (all : List EntryReport) → with_report o p ≡ Some all → HasReports o p all
-  has_reports (Some first) (Some rest) all h = record { first = first; rest = rest; is_first = refl; is_rest = refl; is = sym (same_some (first ∷ rest) all h) }
+  has_reports (Some first) (Some rest) all h = record { first = first; rest = rest; is_first = refl; is_rest = refl; is = sym (same_Some (first ∷ rest) all h) }
   has_reports (Some first) None all h = absurd (cc)
   has_reports None p all h = absurd (cc)
 
@@ -84,7 +84,7 @@ module _ (H : List ℕ → List ℕ) where
     is : report ≡ entry_report H entry claim
 
   has_claim : (entry : Entry) (o : Option SpanClaim) (report : EntryReport) → option_map (entry_report H entry) o ≡ Some report → HasClaim entry o report
-  has_claim entry (Some claim) report h = record { claim = claim; is_claim = refl; is = sym (same_some (entry_report H entry claim) report h) }
+  has_claim entry (Some claim) report h = record { claim = claim; is_claim = refl; is = sym (same_Some (entry_report H entry claim) report h) }
   has_claim entry None report h = absurd (cc)
 
   -- raising links keeps claim digests
@@ -94,7 +94,7 @@ module _ (H : List ℕ → List ℕ) where
 
   -- reports tell the claim digests
   reported_digests : (entries : List Entry) (reports : List EntryReport) → entry_reports H entries ≡ Some reports → map (λ report. report.claim) reports ≡ digests_of H entries
-  reported_digests [] reports told = ap (map (λ (r : EntryReport). r.claim)) (sym (same_some [] reports told))
+  reported_digests [] reports told = ap (map (λ (r : EntryReport). r.claim)) (sym (same_Some [] reports told))
   reported_digests (entry ∷ entries) reports told =
       let parts = has_reports (option_map (entry_report H entry) (chain_of H entry.seals)) (entry_reports H entries) reports told in
       let one = has_claim entry (chain_of H entry.seals) parts.first parts.is_first in
@@ -103,7 +103,7 @@ module _ (H : List ℕ → List ℕ) where
 
   -- raised entries have raised reports
   reports_raised : (k : ℕ) (entries : List Entry) (reports : List EntryReport) → entry_reports H entries ≡ Some reports → entry_reports H (map (raised k) entries) ≡ Some (map (raised_report k) reports)
-  reports_raised k [] reports told = ap (λ (rs : List EntryReport). Some (map (raised_report k) rs)) (same_some [] reports told)
+  reports_raised k [] reports told = ap (λ (rs : List EntryReport). Some (map (raised_report k) rs)) (same_Some [] reports told)
   reports_raised k (entry ∷ entries) reports told =
       let parts = has_reports (option_map (entry_report H entry) (chain_of H entry.seals)) (entry_reports H entries) reports told in
       let one = has_claim entry (chain_of H entry.seals) parts.first parts.is_first in
@@ -113,7 +113,7 @@ module _ (H : List ℕ → List ℕ) where
       ∙ ap (λ (rs : List EntryReport). Some (map (raised_report k) rs)) (sym parts.is)
 
   reports_append : (xs ys : List Entry) (rs ss : List EntryReport) → entry_reports H xs ≡ Some rs → entry_reports H ys ≡ Some ss → entry_reports H (xs ++ ys) ≡ Some (rs ++ ss)
-  reports_append [] ys rs ss told more = more ∙ ap (λ (r : List EntryReport). Some (r ++ ss)) (same_some [] rs told)
+  reports_append [] ys rs ss told more = more ∙ ap (λ (r : List EntryReport). Some (r ++ ss)) (same_Some [] rs told)
   reports_append (x ∷ xs) ys rs ss told more =
       let parts = has_reports (option_map (entry_report H x) (chain_of H x.seals)) (entry_reports H xs) rs told in
       ap₂ with_report parts.is_first (reports_append xs ys parts.rest ss parts.is_rest more)
@@ -126,7 +126,7 @@ module _ (H : List ℕ → List ℕ) where
     where
       go : (o : Option SpanClaim) (p : Option (List EntryReport))
           → option_and_then (λ (claim : SpanClaim). option_map (λ (reports : List EntryReport). record { journal = claim.journal; entries = reports }) p) o ≡ Some report → p ≡ Some report.entries
-      go (Some claim) (Some reports) h = ap (λ (r : Report). Some r.entries) (same_some _ report h)
+      go (Some claim) (Some reports) h = ap (λ (r : Report). Some r.entries) (same_Some _ report h)
       go (Some claim) None h = absurd (cc)
       go None p h = absurd (cc)
 
@@ -134,7 +134,7 @@ module _ (H : List ℕ → List ℕ) where
   pub links_below : (e n : ℕ) (entries : List Entry) (reports : List EntryReport) → AllEntryLimits e n entries → entry_reports H entries ≡ Some reports
       → All (λ report. All (λ link. link < n) report.links) reports
   links_below e n [] reports limits told =
-      subst (All (λ (report : EntryReport). All (λ link. link < n) report.links)) (same_some [] reports told) (All-nil (λ (report : EntryReport). All (λ link. link < n) report.links))
+      subst (All (λ (report : EntryReport). All (λ link. link < n) report.links)) (same_Some [] reports told) (All-nil (λ (report : EntryReport). All (λ link. link < n) report.links))
   links_below e n (entry ∷ entries) reports limits told =
       let parts = has_reports (option_map (entry_report H entry) (chain_of H entry.seals)) (entry_reports H entries) reports told in
       let one = has_claim entry (chain_of H entry.seals) parts.first parts.is_first in

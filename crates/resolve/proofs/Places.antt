@@ -1,5 +1,7 @@
 -- The place of a digest among others, and the entry that has it. H is the digest function.
 use Rattle.std.proofs.Common.{◌≡◌, ℕ, suc, ◌+◌, ◌<◌, ◌≤◌, Bool, true, false, cond, List, [], ◌∷◌, length, drop, get_or, Option, Some, None, refl, sym, ap, ◌∙◌, arith}
+use Rattle.std.proofs.lemmas.Bool.{true≢false}
+use Rattle.std.proofs.lemmas.Option.{same_Some}
 use Rattle.std.specs.Prelude.{option_map}
 use Rattle.std.specs.Str.{bytes_eq}
 use Rattle.std.proofs.lemmas.List.{drop_more, drop_all}
@@ -12,13 +14,10 @@ use Rattle.check_core.proofs.Linked.{other_bytes}
 use Rattle.resolve.specs.Bundling.{first_with}
 use Rattle.resolve.specs.Parts.{digests_of, place_in}
 
-true_not_false : true ≡ false → (A : Type 0) → A
-true_not_false h A = absurd (cc)
-
 -- a test of two digests is the same in either order
 turned : (a b : List ℕ) (t : Bool) → t ≡ bytes_eq a b → bytes_eq b a ≡ t
 turned a b true is = test_bytes b a (sym ((bytes_eq-Decides a b).0 (sym is)))
-turned a b false is = other_bytes b a (λ e. true_not_false (sym (test_bytes a b (sym e)) ∙ sym is) _)
+turned a b false is = other_bytes b a (λ e. true≢false (sym (test_bytes a b (sym e)) ∙ sym is))
 
 -- ---- one digest after the other
 module _ (wanted : List ℕ) (digests : List (List ℕ)) where
@@ -43,10 +42,7 @@ place_low wanted k [] place h = absurd (cc)
 place_low wanted k (digest ∷ digests) place h = go (bytes_eq wanted digest) h (λ g. place_low wanted (k + 1) digests place g)
   where
     go : (b : Bool) → cond b (Some k) (place_in wanted (k + 1) digests) ≡ Some place → (place_in wanted (k + 1) digests ≡ Some place → place < k + 1 + length digests) → place < k + suc (length digests)
-    go true g rest = let same : k ≡ place = same_number k place g in omega (arith, same)
-      where
-        same_number : (m n : ℕ) → Some m ≡ Some n → m ≡ n
-        same_number m n f = cc
+    go true g rest = let same : k ≡ place = same_Some k place g in omega (arith, same)
     go false g rest = let low = rest g in omega (arith, low)
 
 -- from one number more on

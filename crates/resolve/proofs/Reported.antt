@@ -1,7 +1,7 @@
 -- The report of a bundle that is put together. H is the digest function.
 use Rattle.std.proofs.Common.{◌≡◌, ℕ, suc, ◌+◌, ◌<◌, ◌≤◌, List, [], ◌∷◌, ◌++◌, length, map, get_or, Option, Some, sym, ap, ◌∙◌, arith}
 use Rattle.std.specs.Prelude.{option_map, option_and_then}
-use Rattle.rv_step.proofs.Runs.{same_some}
+use Rattle.std.proofs.lemmas.Option.{same_Some}
 use Rattle.claim_types.specs.Claims.{SpanClaim}
 use Rattle.receipt_types.specs.Bundles.{Entry, Bundle, item}
 use Rattle.lift_join.specs.Joins.{chain_of}
@@ -23,14 +23,14 @@ module _ (H : List ℕ → List ℕ) (proved : Chained) (others : List Checked) 
   pub first_seals : (first : Entry) → item B 0 ≡ Some first → first.seals ≡ proved.seals
   first_seals first at =
       let p = resolved_parts H proved (bundles_of others) B is.is in
-      let same : entry_zero proved p.links ≡ first = same_some (entry_zero proved p.links) first (ap (λ (C : Bundle). item C 0) p.is ∙ at) in
+      let same : entry_zero proved p.links ≡ first = same_Some (entry_zero proved p.links) first (ap (λ (C : Bundle). item C 0) p.is ∙ at) in
       sym (ap (λ (x : Entry). x.seals) same)
 
   -- the report of entry 0 alone
   pub one_reported : (report : EntryReport) (first : Entry) → item B 0 ≡ Some first → chain_of H proved.seals ≡ Some proved.claim → report ≡ entry_report H first proved.claim
       → ReportsSoFar H B others 0 (report ∷ [])
   one_reported report first at chain made other other_at =
-      let same : first ≡ other = same_some first other (sym at ∙ other_at) in
+      let same : first ≡ other = same_Some first other (sym at ∙ other_at) in
       ap (λ (x : Entry). entry_reports H (x ∷ [])) (sym same)
       ∙ ap (λ (o : Option SpanClaim). with_report (option_map (entry_report H first) o) (Some [])) (ap (chain_of H) (first_seals first at) ∙ chain)
       ∙ ap (λ (r : EntryReport). Some (r ∷ [])) (sym made)

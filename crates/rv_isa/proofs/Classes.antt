@@ -1,5 +1,6 @@
 -- The rows of one opcode.
 use Rattle.std.proofs.Common.{◌≡◌, ◌≢◌, ℕ, Bool, true, false, cond, ◌&&◌, eqb, refl, ◌∙◌, Option, Some, None, pos, arith, find, option_map}
+use Rattle.std.proofs.lemmas.Bool.{ne_eqb}
 use Rattle.std.proofs.lemmas.Bool.Decides.{nat_tests}
 use Rattle.rv_isa.specs.declared.instr.AluOp.{AluOp}
 use Rattle.rv_isa.specs.declared.instr.Instr.{Instr}
@@ -56,15 +57,12 @@ pub decode_product : (w : ℕ) → opcode w ≡ 0b0110011 → funct7 w ≡ 1 →
 unfolding rows fits
 decode_product w e f = decode_at w 0b0110011 (funct3 w) 1 e refl f ∙ simp (and_true, and_false, option_map-cond)
 
-not_eqb : (m n : ℕ) → m ≢ n → eqb m n ≡ false
-not_eqb m n h = grind (arith, nat_tests)
-
 pub decode_no_op : (w : ℕ) → opcode w ≡ 0b0110011 → funct7 w ≢ 0 → funct7 w ≢ 32 → funct7 w ≢ 1 → decode_of w ≡ None
 unfolding rows fits
 decode_no_op w e f g h =
-    let f' : eqb (funct7 w) 0 ≡ false = not_eqb _ _ f in
-    let g' : eqb (funct7 w) 32 ≡ false = not_eqb _ _ g in
-    let h' : eqb (funct7 w) 1 ≡ false = not_eqb _ _ h in
+    let f' : eqb (funct7 w) 0 ≡ false = ne_eqb _ _ f in
+    let g' : eqb (funct7 w) 32 ≡ false = ne_eqb _ _ g in
+    let h' : eqb (funct7 w) 1 ≡ false = ne_eqb _ _ h in
     decode_at w 0b0110011 (funct3 w) (funct7 w) e refl refl ∙ simp (f', g', h', and_false)
 
 pub decode_fence : (w : ℕ) → opcode w ≡ 0b0001111 → decode_of w ≡ cond (eqb (funct3 w) 0) (Some Fence) None
@@ -86,8 +84,8 @@ pub decode_none : (w : ℕ) → opcode w ≢ 0b0110111 → opcode w ≢ 0b001011
     → decode_of w ≡ None
 decode_none w a b c d e f g h i j k =
     decode_at w (opcode w) (funct3 w) (funct7 w) refl refl refl
-    ∙ none w (opcode w) (funct3 w) (funct7 w) (not_eqb _ _ a) (not_eqb _ _ b) (not_eqb _ _ c) (not_eqb _ _ d) (not_eqb _ _ e) (not_eqb _ _ f)
-    (not_eqb _ _ g) (not_eqb _ _ h) (not_eqb _ _ i) (not_eqb _ _ j) (not_eqb _ _ k)
+    ∙ none w (opcode w) (funct3 w) (funct7 w) (ne_eqb _ _ a) (ne_eqb _ _ b) (ne_eqb _ _ c) (ne_eqb _ _ d) (ne_eqb _ _ e) (ne_eqb _ _ f)
+    (ne_eqb _ _ g) (ne_eqb _ _ h) (ne_eqb _ _ i) (ne_eqb _ _ j) (ne_eqb _ _ k)
 
 -- all the rows on two registers
 pub decode_registers : (w : ℕ) → opcode w ≡ 0b0110011 → decode_of w ≡ option_map (λ op. Alu op (rd w) (rs1 w) (rs2 w)) (register_op_of (funct7 w) (funct3 w))

@@ -2,22 +2,24 @@
 use Rattle.std.proofs.Common.{◌≡◌, ℕ, zero, suc, ◌+◌, ◌-◌, ◌/◌, ◌%◌, ◌<◌, ◌≤◌, Bool, true, false, cond, ◌||◌, leb, eqb, List, [], ◌∷◌, ◌++◌, length, take, drop, refl, sym, ap, ap₂, ◌∙◌, subst, arith, IsTrue, inl, inr, ◌⊎◌, ⊎_elim, append_assoc, length-append}
 use Rattle.std.specs.Int.{w32, byte_len, to_le_bytes, from_le_bytes}
 use Rattle.std.specs.List.{flat_map}
+use Rattle.std.specs.Prelude.{Contains}
+use Rattle.std.proofs.lemmas.List.Elements.{Contains-append_left, Contains-append_right}
 use Rattle.std.proofs.lemmas.List.{take-append-le, drop-append-le}
 use Rattle.std.proofs.lemmas.Bool.Decides.{nat_tests, leb_tells}
 use Rattle.rv_isa.specs.declared.fault.Fault.TheVariants.{InputEnd, BadAddress}
 use Rattle.host_calls.specs.declared.call.Call.{Call}
 use Rattle.host_calls.specs.declared.call.Call.TheVariants.{Halt, Read, Commit, Assume}
-use Rattle.page_core.specs.Memory.{top, bytes, put, contains, pages_from, pages_of, Within, Agree}
+use Rattle.page_core.specs.Memory.{top, bytes, put, pages_from, pages_of, Within, Agree}
 use Rattle.host_calls.specs.Calls.{fits_below, ranges_of, takes}
 use Rattle.rv_step.specs.declared.act.Act.TheVariants.{Sets, Loads, Stores, Does, Faults}
 use Rattle.rv_step.specs.declared.act.Act.{Act}
-use Rattle.rv_step.specs.Machine.{State, Faulted, load_width, loaded, act_of_word, supplied, act, data_of, pages_of_all, called, done, step_of, foot_at, foot_of, step_cost, cost_of_act, full_of}
+use Rattle.rv_step.specs.Machine.{data_of, State, Faulted, load_width, loaded, act_of_word, supplied, act, pages_of_all, called, done, step_of, foot_at, foot_of, step_cost, cost_of_act, full_of}
 use Rattle.rv_isa.specs.Registers.{with_register}
 use Rattle.rv_step.specs.Laws.{Beside, Alike, AlikeEvents, StepReadsItsFoot}
 use Rattle.page_core.proofs.Bytes.{put-same}
 use Rattle.rv_step.proofs.Full.{agree-after, bytes-agree, length-with_register}
-use Rattle.rv_step.proofs.Feet.{code_in_foot, data_within}
-use Rattle.page_core.proofs.Listed.{contains-left, contains-right}
+use Rattle.rv_step.proofs.Feet.{data_within, code_in_foot}
+use Rattle.page_core.proofs.Listed.{Contains-none, Contains-cases}
 use Rattle.rv_step.proofs.Acts.{acts_are_sound}
 use Rattle.rv_step.specs.Acts.{AllBelow}
 
@@ -81,17 +83,17 @@ module _ (pages : List ℕ) (more : Beside) (s t : State) (same : Alike pages mo
       (λ a e. put-same s.memory t.memory pointer (flat_map (to_le_bytes w32) (take count s.words)) a e ∙ ap (λ ws. put t.memory pointer (flat_map (to_le_bytes w32) ws) a) (sym words_same))
   call_alike (Commit pointer count) ok shown has =
       let read : bytes s.memory pointer count ≡ bytes t.memory pointer count =
-      range_same pointer count ok.0 (λ p h. shown p (contains-left (pages_of pointer count) [] p h)) in
+      range_same pointer count ok.0 (λ p h. shown p (Contains-append_left (pages_of pointer count) [] p h)) in
       alike_after _ _ (length-with_register s.x 10 count) pc_next (x_with 10 count count refl)
       same.words
       (ap₂ ◌++◌ same.journal (sym read) ∙ append_assoc more.journal s.journal (bytes s.memory pointer count))
       same.calls (λ a e. e)
   call_alike (Assume image journal) ok shown has =
       let image_same : bytes s.memory image 32 ≡ bytes t.memory image 32 =
-      range_same image 32 ok.0 (λ p h. shown p (contains-left (pages_of image 32) _ p h)) in
+      range_same image 32 ok.0 (λ p h. shown p (Contains-append_left (pages_of image 32) _ p h)) in
       let journal_same : bytes s.memory journal 32 ≡ bytes t.memory journal 32 =
       range_same journal 32 ok.1.0
-      (λ p h. shown p (contains-right (pages_of image 32) _ p (contains-left (pages_of journal 32) [] p h))) in
+      (λ p h. shown p (Contains-append_right (pages_of image 32) _ p (Contains-append_left (pages_of journal 32) [] p h))) in
       alike_after _ _ (length-with_register s.x 10 0) pc_next (x_with 10 0 0 refl)
       same.words same.journal
       (ap₂ (λ cs c. cs ++ (c ∷ [])) same.calls (λ i. record { image = sym image_same i; journal = sym journal_same i })
@@ -105,7 +107,7 @@ module _ (pages : List ℕ) (more : Beside) (s t : State) (same : Alike pages mo
       alike_after _ _ (length-with_register s.x rd v) refl (x_with rd v v refl) same.words same.journal same.calls (λ a e. e)
   done_alike (Loads op rd a) ok shown has =
       let read : bytes s.memory a (byte_len (load_width op)) ≡ bytes t.memory a (byte_len (load_width op)) =
-      range_same a (byte_len (load_width op)) ok.0 (λ p h. shown p (contains-left (pages_of a (byte_len (load_width op))) [] p h)) in
+      range_same a (byte_len (load_width op)) ok.0 (λ p h. shown p (Contains-append_left (pages_of a (byte_len (load_width op))) [] p h)) in
       alike_after _ _ (length-with_register s.x rd _) pc_next
       (x_with rd _ _ (ap (λ bs. loaded op (from_le_bytes (load_width op) bs)) read)) same.words same.journal same.calls (λ a e. e)
   done_alike (Stores op a v) ok shown has =
@@ -144,17 +146,12 @@ supplied_act s = go (leb top s.pc)
     go false = supplied_is (length s.words) _
 
 -- an aligned word lies in one page
-pub one_page : (pc : ℕ) (pages : List ℕ) → pc % 4 ≡ 0 → IsTrue (contains pages (pc / 1024)) → Within (pages_of pc 4) pages
+pub one_page : (pc : ℕ) (pages : List ℕ) → pc % 4 ≡ 0 → Contains pages (pc / 1024) → Within (pages_of pc 4) pages
 unfolding pages_from
 one_page pc pages aligned h p e =
     let one : (pc + 3) / 1024 + 1 - pc / 1024 ≡ 1 = omega arith in
-    let f : IsTrue (contains (pages_from (pc / 1024) 1) p) =
-    subst (λ (n : ℕ). IsTrue (contains (pages_from (pc / 1024) n) p)) one e in
-    let at : p ≡ pc / 1024 = only p (pc / 1024) f in
-    subst (λ (q : ℕ). IsTrue (contains pages q)) (sym at) h
-  where
-    only : (p q : ℕ) → IsTrue (eqb p q || false) → p ≡ q
-    only p q f = grind (arith, nat_tests)
+    ⊎_elim (λ at. subst (Contains pages) (sym at) h) (λ t. absurd (Contains-none p t))
+    (Contains-cases p (pc / 1024) [] (subst (λ (n : ℕ). Contains (pages_from (pc / 1024) n) p) one e))
 
 pub act_out : (s : State) → leb top s.pc ≡ true → act s ≡ Faults (BadAddress s.pc)
 unfolding act

@@ -1,47 +1,42 @@
 -- What a step leaves, by cases on its act.
 use Rattle.std.proofs.Common.{◌≡◌, ℕ, zero, suc, ◌+◌, ◌-◌, ◌*◌, ◌/◌, ◌%◌, ◌^◌, ◌<◌, ◌≤◌, Bool, true, false, List, [], ◌∷◌, ◌++◌, length, get_or, take, set, refl, ◌∙◌, subst, arith, IsTrue, IsFalse, inl, inr, ◌⊎◌, ⊎_elim, sym, length-take}
+use Rattle.rv_step.proofs.Feet.{data_within}
 use Rattle.std.specs.Int.{w32, byte_len, to_le_bytes}
 use Rattle.std.specs.List.{flat_map}
+use Rattle.std.specs.Prelude.{Contains}
 use Rattle.std.proofs.lemmas.Bool.Decides.{leb_tells}
-use Rattle.std.proofs.lemmas.List.Elements.{All-append}
+use Rattle.std.proofs.lemmas.List.Elements.{All-append, Contains-append_left}
 use Rattle.rv_isa.specs.declared.fault.Fault.TheVariants.{BadAddress}
 use Rattle.host_calls.specs.declared.call.Call.{Call}
 use Rattle.host_calls.specs.declared.call.Call.TheVariants.{Halt, Read, Commit, Assume}
-use Rattle.page_core.specs.Memory.{top, bytes, put, contains, pages_of, Within}
+use Rattle.page_core.specs.Memory.{top, bytes, put, pages_of, Within}
 use Rattle.host_calls.specs.Calls.{ranges_of}
 use Rattle.rv_step.specs.declared.act.Act.TheVariants.{Sets, Loads, Stores, Does, Faults}
 use Rattle.rv_step.specs.declared.act.Act.{Act}
-use Rattle.rv_step.specs.Machine.{State, Event, Went, Halted, Faulted, store_width, act, data_of, pages_of_all, next, called, done, step_of, foot_of}
+use Rattle.rv_step.specs.Machine.{data_of, State, Event, Went, Halted, Faulted, store_width, act, pages_of_all, next, called, done, step_of, foot_of}
 use Rattle.rv_isa.specs.Registers.{with_register, AreRegisters}
 use Rattle.rv_step.specs.Laws.{IsReady}
 use Rattle.rv_step.specs.Acts.{IsSound, IsMade, Keeps, StepKeeps, StepHaltsWithWord}
 use Rattle.page_core.proofs.Bytes.{put-outside, in_pages_of, length-words, length-to_le_bytes, to_le_bytes-small, words-small}
-use Rattle.page_core.proofs.Listed.{contains-left}
+
 use Rattle.rv_step.proofs.Full.{length-with_register}
-use Rattle.rv_step.proofs.Feet.{data_within}
+
 use Rattle.rv_step.proofs.Acts.{acts_are_sound}
 use Rattle.rv_step.proofs.Frame.{act_out}
 use Rattle.rv_step.proofs.Made.{AreCalls-append, bytes_are, digest_read, put_small}
 
-pub both : (b : Bool) → b ≡ true → b ≡ false → ⊥
-both b e f = cc
-
-pub not_true : (b : Bool) → (b ≡ true → ⊥) → b ≡ false
-not_true true h = absurd (h refl)
-not_true false h = refl
-
 -- ---- memory
-out_of_range : (a n k : ℕ) → (IsTrue (contains (pages_of a n) (k / 1024)) → ⊥) → (k < a) ⊎ (a + n ≤ k)
+out_of_range : (a n k : ℕ) → ¬ Contains (pages_of a n) (k / 1024) → (k < a) ⊎ (a + n ≤ k)
 out_of_range a n k h =
     ⊎_elim (λ t. ⊎_elim (λ u. inr u.1) (λ u. absurd (h (in_pages_of a n k t.1 (omega (arith, u.1))))) (leb_tells (a + n) k)) (λ t. inl t.1) (leb_tells a k)
 
 -- what is put in a range is out of pages that don't show it
-put_out : (m : ℕ → ℕ) (a n : ℕ) (bs pages : List ℕ) (k : ℕ) → length bs ≤ n → Within (pages_of a n ++ []) pages → IsFalse (contains pages (k / 1024))
+put_out : (m : ℕ → ℕ) (a n : ℕ) (bs pages : List ℕ) (k : ℕ) → length bs ≤ n → Within (pages_of a n ++ []) pages → ¬ Contains pages (k / 1024)
     → put m a bs k ≡ m k
 put_out m a n bs pages k size shown h =
     put-outside m a bs k
     (⊎_elim (λ t. inl t) (λ t. inr (omega (arith, t, size)))
-    (out_of_range a n k (λ e. both _ (shown (k / 1024) (contains-left (pages_of a n) [] (k / 1024) e)) h)))
+    (out_of_range a n k (λ e. h (shown (k / 1024) (Contains-append_left (pages_of a n) [] (k / 1024) e)))))
 
 -- ---- registers
 set_below : (bound : ℕ) (x : List ℕ) (i v n : ℕ) → v < bound → ((k : ℕ) → get_or x k 0 < bound) → get_or (set x i v) n 0 < bound
@@ -73,7 +68,7 @@ Leaves s (Faulted fault) = Unit {0}
 module _ (s : State) (below : s.pc < top) where
   -- it goes on from a state u that has the pc and registers of s
   keeps_next : (u : State) (rd v : ℕ) → u.pc ≡ s.pc → u.x ≡ s.x
-      → ((k : ℕ) → IsFalse (contains (foot_of s) (k / 1024)) → u.memory k ≡ s.memory k) → (IsMade s → IsMade u) → Keeps s (next u rd v)
+      → ((k : ℕ) → ¬ Contains (foot_of s) (k / 1024) → u.memory k ≡ s.memory k) → (IsMade s → IsMade u) → Keeps s (next u rd v)
   keeps_next u rd v ep ex outside made = record {
     outside = outside;
     ready = λ h. record {

@@ -10,7 +10,7 @@ use Rattle.host_calls.specs.Foots.{with_data, with_pages}
 use Rattle.page_core.specs.Memory.{top, bytes, pages_from, pages_of, place, ascending, without}
 use Rattle.rv_step.specs.declared.act.Act.{Act}
 use Rattle.rv_step.specs.declared.act.Act.TheVariants.{Sets, Loads, Stores, Does, Faults}
-use Rattle.rv_step.specs.Machine.{State, act_of_word, supplied, act, done, called, data_of, pages_of_all, foot_at, foot_of, step_of, step_cost, cost_of_act, first_closed}
+use Rattle.rv_step.specs.Machine.{data_of, State, act_of_word, supplied, act, done, called, pages_of_all, foot_at, foot_of, step_of, step_cost, cost_of_act, first_closed}
 use Rattle.rv_step.specs.Stepping.{fetch_foot, unless_closed, fetched, looked_of, act_fault, fault_in}
 use Rattle.rv_step.specs.declared.looking.Looked.{Looked}
 use Rattle.rv_step.specs.Acts.{IsSound}

@@ -1,13 +1,12 @@
 -- Pages that were opened, as they are found and written.
-use Rattle.std.proofs.Common.{◌≡◌, ℕ, zero, suc, ◌+◌, ◌/◌, ◌%◌, ◌<◌, ◌≤◌, true, List, [], ◌∷◌, ◌++◌, length, get_or, take, drop, set, map, Option, Some, None, IsTrue, refl, sym, ap, ◌∙◌, arith, ⊎_elim, get_or-set_same, get_or-set_other}
+use Rattle.std.proofs.Common.{◌≡◌, ℕ, zero, suc, ◌+◌, ◌/◌, ◌%◌, ◌<◌, ◌≤◌, true, List, [], ◌∷◌, ◌++◌, length, get_or, take, drop, set, map, Option, Some, None, IsTrue, refl, sym, ap, ◌∙◌, subst, arith, ⊎_elim, get_or-set_same, get_or-set_other}
 use Rattle.std.specs.Prelude.{All, is_some, option_map, unwrap_or}
 use Rattle.std.proofs.lemmas.Bool.{cases_eq}
-use Rattle.std.proofs.lemmas.List.{get_or_default, get_or_read}
+use Rattle.std.proofs.lemmas.List.{get_or_read}
 use Rattle.page_core.specs.Memory.{bytes, put}
 use Rattle.page_core.specs.Pages.{IsPage, zero_page}
 use Rattle.page_core.specs.Memories.{flat}
-use Rattle.page_core.proofs.Bytes.{length-bytes, get_or-bytes}
-use Rattle.page_core.proofs.Shown.{byte_shown, written as put_in_page}
+use Rattle.page_core.proofs.Shown.{bytes_small as small_in_page, written as put_in_page}
 use Rattle.rv_step.specs.Opened.{page_in, pages_in}
 
 -- ---- boxes that are seen as pages
@@ -51,12 +50,7 @@ page_at pages page n is = ap (λ (o : Option (List ℕ)). unwrap_or o zero_page)
 -- the bytes of the word at an aligned address of an open page are below 256
 pub bytes_small : (pages : List (Option (List ℕ))) (page : List ℕ) (a : ℕ) → Some page ≡ page_in pages (a / 1024) → a % 4 ≡ 0 → IsPage page
     → All (λ byte. byte < 256) (bytes (flat (pages_in pages)) a 4)
-bytes_small pages page a found aligned is k d within =
-    let low : k < 4 = omega (arith, within, length-bytes (flat (pages_in pages)) a 4) in
-    let read : get_or (bytes (flat (pages_in pages)) a 4) k d ≡ get_or page (a % 1024 + k) 0 =
-    get_or_default (bytes (flat (pages_in pages)) a 4) k d 0 within ∙ get_or-bytes (flat (pages_in pages)) a 4 k low
-    ∙ byte_shown (pages_in pages) a k (omega (arith, low, aligned)) ∙ ap (λ (p : List ℕ). get_or p (a % 1024 + k) 0) (page_at pages page (a / 1024) found) in
-    omega (arith, read, is.1 (a % 1024 + k) 0 (omega (arith, is.0)))
+bytes_small pages page a found aligned is = small_in_page (pages_in pages) a aligned (subst IsPage (sym (page_at pages page (a / 1024) found)) is)
 
 -- ---- writing
 -- the pages that are open stay so when one of them is written

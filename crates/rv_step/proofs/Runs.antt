@@ -1,5 +1,6 @@
 -- A run over pages that its footprints lie in.
 use Rattle.std.proofs.Common.{◌≡◌, ℕ, zero, suc, ◌+◌, List, refl, sym, ap, ap₂, ◌∙◌, subst, arith, Option, Some, None, option_and_then, add-zero}
+use Rattle.std.proofs.lemmas.Option.{same_Some, none-some}
 use Rattle.rv_isa.specs.declared.fault.Fault.{Fault}
 use Rattle.rv_step.specs.Machine.{State, Event, Went, Halted, Faulted, step_of, step_cost}
 use Rattle.rv_step.specs.Runs.{after, spent, state_gone, at_some}
@@ -7,22 +8,16 @@ use Rattle.rv_step.specs.Laws.{IsReady, Beside, Alike, AlikeEvents, RunReadsItsF
 use Rattle.rv_step.proofs.Frame.{step_reads_its_foot}
 use Rattle.rv_step.proofs.Kept.{step_keeps}
 
-pub same_some : {A : Type 0} (x y : A) → Some x ≡ Some y → x ≡ y
-same_some x y e = cc
-
-none_some : (t : State) → None ≡ Some t → ⊥
-none_some t e = cc
-
 -- the step before
 pub gone : (e : Event) (t : State) → state_gone e ≡ Some t → e ≡ Went t
-gone (Went s) t h = ap Went (same_some s t h)
-gone (Halted c) t h = absurd (none_some t h)
-gone (Faulted f) t h = absurd (none_some t h)
+gone (Went s) t h = ap Went (same_Some s t h)
+gone (Halted c) t h = absurd (none-some t h)
+gone (Faulted f) t h = absurd (none-some t h)
 
 pub back : (o : Option State) (t : State) → option_and_then (λ u. state_gone (step_of u)) o ≡ Some t
     → (u : State) × (o ≡ Some u) × (step_of u ≡ Went t)
 back (Some u) t h = (u, refl, gone (step_of u) t h)
-back None t h = absurd (none_some t h)
+back None t h = absurd (none-some t h)
 
 pub step_back : (s : State) (n : ℕ) (t : State) → after s (suc n) ≡ Some t → (u : State) × (after s n ≡ Some u) × (step_of u ≡ Went t)
 unfolding after
@@ -31,7 +26,7 @@ step_back s n t h = back (after s n) t h
 -- what each step that goes on keeps, a run keeps
 pub run_keeps : (P : State → Type 0) → ((u v : State) → step_of u ≡ Went v → P u → P v) → (s : State) (n : ℕ) (t : State) → P s → after s n ≡ Some t → P t
 unfolding after
-run_keeps P keeps s zero t h e = subst P (same_some s t e) h
+run_keeps P keeps s zero t h e = subst P (same_Some s t e) h
 run_keeps P keeps s (suc n) t h e = let (u, before, goes) = step_back s n t e in keeps u t goes (run_keeps P keeps s n u h before)
 
 pub step_on : (s : State) (n : ℕ) (t u : State) → after s n ≡ Some t → step_of t ≡ Went u → after s (suc n) ≡ Some u
@@ -53,14 +48,14 @@ like_halted pages more c (Went t) h = absurd h
 like_halted pages more c (Halted d) h = ap Halted h
 like_halted pages more c (Faulted f) h = absurd h
 
-spent_more : (s : State) (n : ℕ) (t : State) → after s n ≡ Some t → spent s (suc n) ≡ spent s n + step_cost t
+pub spent_next : (s : State) (n : ℕ) (t : State) → after s n ≡ Some t → spent s (suc n) ≡ spent s n + step_cost t
 unfolding spent
-spent_more s n t h = ap (λ o. spent s n + at_some step_cost o) h
+spent_next s n t h = ap (λ o. spent s n + at_some step_cost o) h
 
 pub run_reads_its_feet : RunReadsItsFeet
 unfolding after spent
 run_reads_its_feet pages more s r zero t ready same h feet =
-    let e : s ≡ t = same_some s t h in
+    let e : s ≡ t = same_Some s t h in
     (r, refl, subst (λ (u : State). Alike pages more u r) e same, refl, subst (λ (u : State). IsReady u) e ready)
 run_reads_its_feet pages more s r (suc n) t ready same h feet =
     let (u, before, goes) = step_back s n t h in
@@ -72,7 +67,7 @@ run_reads_its_feet pages more s r (suc n) t ready same h feet =
       w,
       step_on r n v w reached on,
       like,
-      spent_more r n v reached ∙ ap₂ ◌+◌ costs cost ∙ sym (spent_more s n u before),
+      spent_next r n v reached ∙ ap₂ ◌+◌ costs cost ∙ sym (spent_next s n u before),
       (step_keeps u t goes).ready fit,
     )
 

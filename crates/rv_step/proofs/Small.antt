@@ -2,17 +2,12 @@
 use Rattle.std.proofs.Common.{ℕ, suc, ◌/◌, ◌≤◌, eqb, List, [], ◌∷◌, length, arith, ⊎_elim}
 use Rattle.std.proofs.lemmas.Bool.{cond_both}
 use Rattle.std.proofs.lemmas.Bool.Decides.{leb_tells}
-use Rattle.page_core.specs.Memory.{top, ascending, without}
-use Rattle.host_calls.proofs.Placed.{place_size}
-use Rattle.rv_step.specs.Machine.{State, act, data_of, pages_of_all, foot_of, step_cost}
+use Rattle.page_core.specs.Memory.{top, without}
+use Rattle.page_core.proofs.Ascending.{length-ascending}
+use Rattle.rv_step.specs.Machine.{data_of, State, act, pages_of_all, foot_of, step_cost}
 use Rattle.rv_step.specs.Acts.{StepIsSmall}
 use Rattle.rv_step.proofs.Feet.{foot-in_range, foot-out_of_range}
 use Rattle.rv_step.proofs.Acts.{acts_are_sound}
-
-length-ascending : (ps : List ℕ) → length (ascending ps) ≤ length ps
-unfolding ascending
-length-ascending [] = omega arith
-length-ascending (p ∷ ps) = omega (arith, (place_size p (ascending ps)).0, length-ascending ps)
 
 length-without : (p : ℕ) (qs : List ℕ) → length (without p qs) ≤ length qs
 unfolding without

@@ -1,17 +1,21 @@
 -- The act that is next, and what doing it answers.
 use Rattle.std.proofs.Common.{◌≡◌, ℕ, zero, suc, ◌+◌, ◌/◌, ◌%◌, ◌<◌, ◌≤◌, Bool, true, false, not, cond, leb, eqb, List, [], ◌∷◌, length, get_or, take, refl, sym, ap, ◌∙◌, subst, arith, add-zero, IsTrue, Option, Some, None, Result, Ok, Err, ⊎_elim}
+use Rattle.rv_step.proofs.Feet.{data_within}
 use Rattle.std.specs.Int.{byte_len}
 use Rattle.std.proofs.lemmas.Bool.Decides.{nat_tests, leb_tells}
+use Rattle.std.specs.Prelude.{Contains}
+use Rattle.std.proofs.lemmas.Option.{none-some}
+use Rattle.std.proofs.lemmas.List.Elements.{Contains-append_left, Contains-append_right}
 use Rattle.rv_isa.specs.declared.instr.LoadOp.{LoadOp}
 use Rattle.rv_isa.specs.declared.instr.LoadOp.TheVariants.{Lb, Lh, Lw, Lbu, Lhu}
 use Rattle.rv_isa.specs.declared.instr.StoreOp.{StoreOp}
 use Rattle.rv_isa.specs.declared.instr.StoreOp.TheVariants.{Sb, Sh, Sw}
 use Rattle.rv_isa.specs.declared.fault.Fault.{Fault}
 use Rattle.host_calls.specs.declared.call.Call.{Call}
-use Rattle.page_core.specs.Memory.{top, contains, pages_of, ascending, without}
+use Rattle.page_core.specs.Memory.{top, pages_of, ascending, without}
 use Rattle.rv_step.specs.declared.act.Act.{Act}
 use Rattle.rv_step.specs.declared.act.Act.TheVariants.{Sets, Does, Faults}
-use Rattle.rv_step.specs.Machine.{State, Event, Went, Faulted, load_width, store_width, act, done, called, data_of, pages_of_all, foot_at, foot_of, cost_of_act, step_of, step_cost, first_closed}
+use Rattle.rv_step.specs.Machine.{data_of, State, Event, Went, Faulted, load_width, store_width, act, done, called, pages_of_all, foot_at, foot_of, cost_of_act, step_of, step_cost, first_closed}
 use Rattle.rv_isa.specs.Registers.{with_register}
 use Rattle.rv_step.specs.declared.stepping.Event.{Event as StepEvent}
 use Rattle.rv_step.specs.declared.stepping.Event.TheVariants as E
@@ -21,8 +25,8 @@ use Rattle.rv_step.specs.Stepping.{fetch_foot, Opens, AllOpen, IsNext, Answers, 
 use Rattle.rv_step.specs.Acts.{IsSound}
 use Rattle.rv_step.proofs.Acts.{acts_are_sound}
 use Rattle.rv_step.proofs.Frame.{IsSupplied, supplied_act}
-use Rattle.rv_step.proofs.Feet.{data_within}
-use Rattle.page_core.proofs.Listed.{or_split, contains-left, contains-right}
+
+use Rattle.page_core.proofs.Listed.{Contains-none, Contains-cases}
 use Rattle.page_core.proofs.Bytes.{in_pages_of}
 use Rattle.rv_step.proofs.Looks.{out, missed, told}
 
@@ -82,25 +86,22 @@ first_in_fetch opens s page h = go (leb top s.pc) h
         more true true h = absurd (cc)
 
 -- where none is closed each is open
-all_open : (opens : ℕ → Bool) (pages : List ℕ) → first_closed opens pages ≡ None → (p : ℕ) → IsTrue (contains pages p) → IsTrue (opens p)
-all_open opens [] none p h = absurd (cc)
-all_open opens (q ∷ pages) none p h = go (opens q) refl none (all_open opens pages)
+pub all_open : (opens : ℕ → Bool) (pages : List ℕ) → first_closed opens pages ≡ None → (p : ℕ) → Contains pages p → IsTrue (opens p)
+all_open opens [] none p h = absurd (Contains-none p h)
+all_open opens (q ∷ pages) none p h = go (opens q) refl none (λ more. all_open opens pages more p)
   where
-    same : (p q : ℕ) → IsTrue (eqb p q) → q ≡ p
-    same p q h = grind (arith, nat_tests)
-
     go : (b : Bool) → opens q ≡ b → cond (not b) (Some q) (first_closed opens pages) ≡ None
-        → (first_closed opens pages ≡ None → (p : ℕ) → IsTrue (contains pages p) → IsTrue (opens p)) → IsTrue (opens p)
-    go true e none rest = ⊎_elim (λ t. ap opens (sym (same p q t)) ∙ e) (rest none p) (or_split (eqb p q) (contains pages p) h)
+        → (first_closed opens pages ≡ None → Contains pages p → IsTrue (opens p)) → IsTrue (opens p)
+    go true e none rest = ⊎_elim (λ t. ap opens t ∙ e) (rest none) (Contains-cases p q pages h)
     go false e none rest = absurd (cc)
 
 -- ranges of data whose pages are open
-pub ranges_open : (opens : ℕ → Bool) (rs : List (ℕ × ℕ)) → ((p : ℕ) → IsTrue (contains (pages_of_all rs) p) → IsTrue (opens p)) → AllOpen opens rs
+pub ranges_open : (opens : ℕ → Bool) (rs : List (ℕ × ℕ)) → ((p : ℕ) → Contains (pages_of_all rs) p → IsTrue (opens p)) → AllOpen opens rs
 unfolding pages_of_all
 ranges_open opens [] h = tt
 ranges_open opens (r ∷ rs) h = (
-  λ k l. h ((r.0 + k) / 1024) (contains-left (pages_of r.0 r.1) (pages_of_all rs) ((r.0 + k) / 1024) (in_pages_of r.0 r.1 (r.0 + k) (omega arith) (omega arith))),
-  ranges_open opens rs (λ p m. h p (contains-right (pages_of r.0 r.1) (pages_of_all rs) p m)),
+  λ k l. h ((r.0 + k) / 1024) (Contains-append_left (pages_of r.0 r.1) (pages_of_all rs) ((r.0 + k) / 1024) (in_pages_of r.0 r.1 (r.0 + k) (omega arith) (omega arith))),
+  ranges_open opens rs (λ p m. h p (Contains-append_right (pages_of r.0 r.1) (pages_of_all rs) p m)),
 )
 
 pub missed_first : (opens : ℕ → Bool) (s : State) (page : ℕ) → Err page ≡ fetched opens s → first_closed opens (foot_of s) ≡ Some page
@@ -126,10 +127,7 @@ module _ (opens : ℕ → Bool) (s : State) (a : Act) (next : IsNext opens s a) 
 
   -- one that doesn't fault was fetched in range
   pub next_place : act_fault a ≡ None → s.pc < top
-  next_place none = ⊎_elim (λ t. absurd (some_none _ (sym (ap act_fault (next.is ∙ out s t.1)) ∙ none))) (λ t. t.1) (leb_tells top s.pc)
-    where
-      some_none : (f : Fault) → Some f ≡ None → ⊥
-      some_none f e = cc
+  next_place none = ⊎_elim (λ t. absurd (none-some _ (sym none ∙ ap act_fault (next.is ∙ out s t.1)))) (λ t. t.1) (leb_tells top s.pc)
 
   pub next_supplied : IsSupplied (length s.words) a
   next_supplied = subst (λ (b : Act). IsSupplied (length s.words) b) (sym next.is) (supplied_act s)
@@ -147,7 +145,7 @@ module _ (opens : ℕ → Bool) (s : State) (a : Act) (next : IsNext opens s a) 
   pub next_open : AllOpen opens (data_of a)
   next_open =
       ranges_open opens (data_of a)
-      (λ p h. all_open opens (foot_of s) next.no_closed p (data_within s p (subst (λ (b : Act). IsTrue (contains (pages_of_all (data_of b)) p)) next.is h)))
+      (λ p h. all_open opens (foot_of s) next.no_closed p (data_within s p (subst (λ (b : Act). Contains (pages_of_all (data_of b)) p) next.is h)))
 
 -- the same, of an act that is seen to be this one
 pub next_as : (opens : ℕ → Bool) (s : State) (a b : Act) → a ≡ b → IsNext opens s a → IsNext opens s b

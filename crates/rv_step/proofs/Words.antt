@@ -1,12 +1,14 @@
 -- Bytes, halfwords and words of a memory.
-use Rattle.std.proofs.Common.{◌≡◌, ℕ, zero, suc, ◌+◌, ◌-◌, ◌*◌, ◌/◌, ◌%◌, ◌<◌, ◌≤◌, List, [], ◌∷◌, ◌++◌, length, get_or, take, set, refl, sym, ap, ap₂, ◌∙◌, arith, inl, inr, ◌⊎◌, ⊎_elim, length-append, length-set, get_or-set_same, get_or-set_other}
+use Rattle.std.proofs.Common.{◌≡◌, ℕ, zero, suc, ◌+◌, ◌-◌, ◌*◌, ◌/◌, ◌%◌, ◌<◌, ◌≤◌, List, [], ◌∷◌, ◌++◌, length, get_or, take, set, refl, sym, ap, ap₂, ◌∙◌, arith, inl, inr, ◌⊎◌, ⊎_elim, length-append, length-set, get_or-set_same, get_or-set_other, drop}
 use Rattle.std.specs.List.{flat_map}
+use Rattle.std.specs.Prelude.{All}
 use Rattle.std.specs.Int.{w16, w32, to_le_bytes, from_le_bytes}
 use Rattle.std.proofs.lemmas.Bool.Decides.{leb_tells}
-use Rattle.std.proofs.lemmas.List.{flat_map_more, get_or-append-add, length-take-le}
-use Rattle.std.proofs.Math.ListN.{get_or-append}
-use Rattle.std.proofs.Math.Seq.{take-suc, take-suc-set}
-use Rattle.page_core.specs.Memory.{bytes, put}
+use Rattle.std.proofs.lemmas.List.{flat_map_more, length-take-le}
+use Rattle.std.proofs.Math.Seq.{take-suc, take-suc-set, take-length}
+use Rattle.page_core.specs.Memory.{top, bytes, put}
+use Rattle.rv_step.specs.Machine.{full_of}
+use Rattle.page_core.proofs.Ranges.{put_append}
 use Rattle.page_core.proofs.Bytes.{two, length-bytes, length-words, get_or-bytes, put-outside, put-inside}
 
 -- a byte of the word in which it lies
@@ -131,30 +133,6 @@ unfolding bytes
 bytes_on m a zero = ap (λ (n : ℕ). m n ∷ []) (omega arith)
 bytes_on m a (suc k) = ap (λ (bs : List ℕ). m a ∷ bs) (bytes_on m (a + 1) k ∙ ap (λ (n : ℕ). bytes m (a + 1) k ++ m n ∷ []) (omega arith))
 
-put_twice_at : (m : ℕ → ℕ) (a : ℕ) (xs ys : List ℕ) (k : ℕ) → put (put m a xs) (a + length xs) ys k ≡ put m a (xs ++ ys) k
-put_twice_at m a xs ys k =
-    ⊎_elim
-    (λ low. ⊎_elim
-    (λ late. ⊎_elim
-    (λ past. put-outside (put m a xs) (a + length xs) ys k (inr past.1) ∙ put-outside m a xs k (inr late.1) ∙ sym (put-outside m a (xs ++ ys) k (inr (omega (arith, past.1, sizes)))))
-    (λ within.
-    ap (put (put m a xs) (a + length xs) ys) (omega arith) ∙ put-inside (put m a xs) (a + length xs) ys (k - (a + length xs)) (omega arith)
-    ∙ sym (get_or-append-add xs ys (k - (a + length xs)) 0)
-    ∙ sym (put-inside m a (xs ++ ys) (length xs + (k - (a + length xs))) (omega (arith, sizes))) ∙ ap (put m a (xs ++ ys)) (omega arith))
-    (leb_tells (a + length xs + length ys) k))
-    (λ early.
-    put-outside (put m a xs) (a + length xs) ys k (inl early.1)
-    ∙ ap (put m a xs) (omega arith) ∙ put-inside m a xs (k - a) (omega arith) ∙ sym (get_or-append xs ys 0 (k - a) (omega arith))
-    ∙ sym (put-inside m a (xs ++ ys) (k - a) (omega (arith, sizes))) ∙ ap (put m a (xs ++ ys)) (omega arith))
-    (leb_tells (a + length xs) k))
-    (λ low. put-outside (put m a xs) (a + length xs) ys k (inl (omega (arith, low.1))) ∙ put-outside m a xs k (inl low.1) ∙ sym (put-outside m a (xs ++ ys) k (inl low.1)))
-    (leb_tells a k)
-  where
-    sizes : length (xs ++ ys) ≡ length xs + length ys
-    sizes = length-append xs ys
-
-pub put_twice : (m : ℕ → ℕ) (a : ℕ) (xs ys : List ℕ) → put (put m a xs) (a + length xs) ys ≡ put m a (xs ++ ys)
-put_twice m a xs ys = λ i k. put_twice_at m a xs ys k i
 
 -- one more word after k
 pub word_put : (m n p : ℕ → ℕ) (a at k w : ℕ) (ws : List ℕ) → k < length ws → at ≡ a + 4 * k → w ≡ get_or ws k 0
@@ -162,8 +140,30 @@ pub word_put : (m n p : ℕ → ℕ) (a at k w : ℕ) (ws : List ℕ) → k < le
 word_put m n p a at k w ws within there is before after =
     let size : length (flat_map (to_le_bytes w32) (take k ws)) ≡ 4 * k = length-words (take k ws) ∙ ap (λ (j : ℕ). 4 * j) (length-take-le k ws (omega arith)) in
     after ∙ ap₂ (λ (q : ℕ → ℕ) (b : ℕ). put q b (to_le_bytes w32 w)) before (there ∙ ap (λ (j : ℕ). a + j) (sym size))
-    ∙ put_twice m a (flat_map (to_le_bytes w32) (take k ws)) (to_le_bytes w32 w)
+    ∙ (λ i n. put_append m a (flat_map (to_le_bytes w32) (take k ws)) (to_le_bytes w32 w) n i)
     ∙ ap (put m a) (flat_map_more (to_le_bytes w32) [] (take k ws) w ∙ ap (λ (v : ℕ). flat_map (to_le_bytes w32) (take k ws ++ v ∷ [])) is ∙ ap (flat_map (to_le_bytes w32)) (sym (take-suc ws k 0 within)))
+
+-- a memory with the registers from x1 to that before n written into it
+abbrev pub full_up_to : (ℕ → ℕ) → List ℕ → ℕ → ℕ → ℕ
+full_up_to m x n = put m (top + 4) (flat_map (to_le_bytes w32) (take (n - 1) (drop 1 x)))
+
+pub one_more_full : (m mid new : ℕ → ℕ) (x : List ℕ) (n v at : ℕ) → mid ≡ full_up_to m x n → 1 ≤ n → n < 32 → length x ≡ 32
+    → v ≡ get_or x n 0 → at ≡ top + 4 * n → new ≡ put mid at (to_le_bytes w32 v) → new ≡ full_up_to m x (n + 1)
+one_more_full m mid new [] n v at before some low size is there after = absurd (omega (arith, size))
+one_more_full m mid new (y ∷ x) zero v at before some low size is there after = absurd (omega arith)
+one_more_full m mid new (y ∷ x) (suc k) v at before some low size is there after =
+    let this : suc k - 1 ≡ k = omega arith in
+    let next : suc k + 1 - 1 ≡ suc k = omega arith in
+    word_put m mid new (top + 4) at k v x (omega (arith, size)) (omega (arith, there)) is
+    (before ∙ ap (λ (j : ℕ). put m (top + 4) (flat_map (to_le_bytes w32) (take j x))) this) after
+    ∙ ap (λ (j : ℕ). put m (top + 4) (flat_map (to_le_bytes w32) (take j x))) (sym next)
+
+pub all_full : (m : ℕ → ℕ) (x : List ℕ) (n : ℕ) → n ≡ 32 → length x ≡ 32 → full_up_to m x n ≡ full_of m x
+unfolding full_of
+all_full m [] n all size = absurd (omega (arith, size))
+all_full m (y ∷ x) n all size =
+    let rest : n - 1 ≡ length x = omega (arith, size, all) in
+    ap (λ (xs : List ℕ). put m (top + 4) (flat_map (to_le_bytes w32) xs)) (ap (λ (j : ℕ). take j x) rest ∙ take-length x)
 
 -- one more byte after k
 pub byte_read : (m : ℕ → ℕ) (a at k b n : ℕ) (buffer : List ℕ) → k < n → length buffer ≡ n → at ≡ a + k → b ≡ m at → take k buffer ≡ bytes m a k

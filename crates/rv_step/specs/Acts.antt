@@ -1,15 +1,14 @@
 -- What holds of every act, and what a step keeps.
-use Rattle.std.specs.Prelude.{◌≡◌, ℕ, ◌/◌, ◌%◌, ◌^◌, ◌<◌, ◌≤◌, List, [], ◌∷◌, length, IsTrue, IsFalse}
+use Rattle.std.specs.Prelude.{◌≡◌, ℕ, ◌/◌, ◌%◌, ◌^◌, ◌<◌, ◌≤◌, List, [], ◌∷◌, length, IsTrue, IsFalse, Contains}
 use Rattle.std.specs.Int.{byte_len}
 use Rattle.digest_core.specs.Digests.{IsBytes, IsDigest}
 use Rattle.rv_isa.specs.Registers.{register}
-use Rattle.page_core.specs.Memory.{contains}
 use Rattle.host_calls.specs.declared.call.Call.TheVariants.{Halt, Read, Commit, Assume}
 use Rattle.host_calls.specs.declared.call.AssumeCall.{AssumeCall}
 use Rattle.host_calls.specs.Calls.{fits_below}
 use Rattle.rv_step.specs.declared.act.Act.{Act}
 use Rattle.rv_step.specs.declared.act.Act.TheVariants.{Sets, Loads, Stores, Does}
-use Rattle.rv_step.specs.Machine.{State, Went, Halted, load_width, store_width, act, data_of, pages_of_all, cost_of_act, step_of, foot_of, step_cost}
+use Rattle.rv_step.specs.Machine.{data_of, State, Went, Halted, load_width, store_width, act, pages_of_all, cost_of_act, step_of, foot_of, step_cost}
 use Rattle.rv_step.specs.Laws.{IsReady}
 
 -- ---- an act
@@ -70,7 +69,7 @@ pub record IsMade (s : State) : Type 0 where
 
 -- what a step that went from s to t keeps: the memory outside its footprint, and what every run's states have
 pub record Keeps (s t : State) : Type 0 where
-  pub outside : (a : ℕ) → IsFalse (contains (foot_of s) (a / 1024)) → t.memory a ≡ s.memory a
+  pub outside : (a : ℕ) → ¬ Contains (foot_of s) (a / 1024) → t.memory a ≡ s.memory a
   pub ready : IsReady s → IsReady t
   pub made : IsMade s → IsMade t
 

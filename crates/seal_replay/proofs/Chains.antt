@@ -1,9 +1,15 @@
 -- Chains of seals that agree with a run.
-use Rattle.std.proofs.Common.{◌≡◌, ℕ, zero, suc, ◌+◌, ◌-◌, ◌%◌, ◌^◌, ◌<◌, ◌≤◌, Bool, true, false, not, cond, ◌||◌, eqb, List, [], ◌∷◌, ◌++◌, length, get_or, replicate, refl, sym, ap, ◌∙◌, subst, arith, IsTrue, Option, Some, None, option_and_then, append_assoc, append-nil, ⊎_elim}
+use Rattle.std.proofs.Common.{◌≡◌, ℕ, zero, suc, ◌+◌, ◌-◌, ◌%◌, ◌^◌, ◌<◌, ◌≤◌, Bool, true, false, cond, eqb, List, [], ◌∷◌, ◌++◌, length, refl, sym, ap, ◌∙◌, subst, arith, Option, Some, None, option_and_then, append_assoc, append-nil, ⊎_elim}
+use Rattle.rv_step.proofs.Steps.{all_open}
+use Rattle.page_core.proofs.Listed.{Contains-from_is_among}
+use Rattle.page_core.proofs.Zeros.{get_or-same}
+use Rattle.std.proofs.lemmas.Option.{some_pair_parts, same_Some}
+use Rattle.std.specs.Prelude.{Contains}
+use Rattle.page_core.proofs.Options.{first_none, second_none}
 use Rattle.std.proofs.lemmas.Bool.Decides.{nat_tests, eqb_tells}
 use Rattle.rv_isa.specs.declared.fault.Fault.{Fault}
 use Rattle.rv_isa.specs.declared.fault.Fault.TheVariants.{InputEnd}
-use Rattle.page_core.specs.Memory.{top, contains, Within, Agree}
+use Rattle.page_core.specs.Memory.{top, is_among, Within, Agree}
 use Rattle.host_calls.specs.declared.call.AssumeCall.{AssumeCall}
 use Rattle.rv_step.specs.Machine.{State, Event, Went, Halted, Faulted, step_of, foot_of, full, full_of, first_closed}
 use Rattle.page_core.specs.Images.{Image, IsImage}
@@ -19,18 +25,10 @@ use Rattle.rv_step.specs.Laws.{IsReady, Beside, Alike, AlikeEvents, HaltsAfter}
 use Rattle.seal_replay.specs.Laws.{BeginsAt, beside, ReplayFollowsRun}
 use Rattle.rv_step.proofs.Frame.{step_reads_its_foot}
 use Rattle.rv_step.proofs.Feet.{foot_has_registers}
-use Rattle.rv_step.proofs.Runs.{same_some, after-add, run_reads_its_feet, like_halted}
+use Rattle.rv_step.proofs.Runs.{after-add, run_reads_its_feet, like_halted}
 use Rattle.seal_replay.proofs.Registers.{registers_shown, full_shown}
 
 -- ---- no stop
-pub first_none : {A : Type 0} (a b : Option A) → option_or a b ≡ None → a ≡ None
-first_none (Some x) b h = h
-first_none None b h = refl
-
-pub second_none : {A : Type 0} (a b : Option A) → option_or a b ≡ None → b ≡ None
-second_none (Some x) b h = absurd (cc)
-second_none None b h = h
-
 pub below_none : {A : Type 0} (f : ℕ → Option A) (n k : ℕ) → first_below f n ≡ None → k < n → f k ≡ None
 unfolding first_below
 below_none f zero k h l = absurd (omega arith)
@@ -42,33 +40,21 @@ no_page : (k : ℕ) (o : Option ℕ) → page_stop k o ≡ None → o ≡ None
 no_page k (Some p) h = absurd (cc)
 no_page k None h = refl
 
--- no page of the list is closed
-opened_one : (opened pages : List ℕ) (p q : ℕ) (b c : Bool) → contains opened q ≡ b → eqb p q ≡ c
-    → (first_closed (contains opened) pages ≡ None → IsTrue (contains pages p) → IsTrue (contains opened p))
-    → cond (not b) (Some q) (first_closed (contains opened) pages) ≡ None → IsTrue (c || contains pages p) → IsTrue (contains opened p)
-opened_one opened pages p q true true f g rest n t = let at : p ≡ q = grind (arith, nat_tests) in rw at f
-opened_one opened pages p q true false f g rest n t = rest n t
-opened_one opened pages p q false c f g rest n t = absurd (cc)
-
-all_open : (opened pages : List ℕ) → first_closed (contains opened) pages ≡ None → Within pages opened
-all_open opened [] h p e = absurd (cc)
-all_open opened (q ∷ pages) h p e =
-    opened_one opened pages p q (contains opened q) (eqb p q) refl refl (λ n t. all_open opened pages n p t) h e
-
 pub no_step_stop : (seal : Seal) (k : ℕ) (u : State) → step_stop seal k ≡ None → after (enter seal) k ≡ Some u
-    → stop_at (contains (opened_by seal)) seal.steps k u ≡ None
+    → stop_at (is_among (opened_by seal)) seal.steps k u ≡ None
 unfolding step_stop
-no_step_stop seal k u h e = sym (ap (option_and_then (stop_at (contains (opened_by seal)) seal.steps k)) e) ∙ h
+no_step_stop seal k u h e = sym (ap (option_and_then (stop_at (is_among (opened_by seal)) seal.steps k)) e) ∙ h
 
 -- a seal with no stop has each footprint opened
 pub feet_open : (seal : Seal) → stop_of seal ≡ None → (k : ℕ) (u : State) → k < seal.steps → after (enter seal) k ≡ Some u
     → Within (foot_of u) (opened_by seal)
 unfolding stop_of
-feet_open seal h k u l e =
-    all_open (opened_by seal) (foot_of u)
+feet_open seal h k u l e p c =
+    Contains-from_is_among (opened_by seal) p
+    (all_open (is_among (opened_by seal)) (foot_of u)
     (no_page k _
-    (first_none (page_stop k (first_closed (contains (opened_by seal)) (foot_of u))) (event_stop seal.steps k (step_of u))
-    (no_step_stop seal k u (below_none (step_stop seal) seal.steps k (first_none _ _ h) l) e)))
+    (first_none (page_stop k (first_closed (is_among (opened_by seal)) (foot_of u))) (event_stop seal.steps k (step_of u))
+    (no_step_stop seal k u (below_none (step_stop seal) seal.steps k (first_none _ _ h) l) e))) p c)
 
 no_words : (words : List ℕ) (b : Bool) (stop : ReplayStop) → eqb (length words) 0 ≡ b → cond b None (Some stop) ≡ None → words ≡ []
 no_words [] b stop e h = refl
@@ -84,36 +70,32 @@ all_used seal exit t h e =
     ∙ first_none (option_and_then words_stop (ending seal)) _ (second_none (first_below (step_stop seal) seal.steps) _ h))
 
 -- ---- how a seal ends
-pub both_same : {A B : Type 0} (a c : A) (b d : B) → ◌≡◌ {A = Option (A × B)} (Some (a, b)) (Some (c, d)) → (a ≡ c) × (b ≡ d)
-both_same {A} {B} a c b d h =
-    let e : ◌≡◌ {A = A × B} (a, b) (c, d) = same_some (a, b) (c, d) h in (ap (λ p. p.0) e, ap (λ p. p.1) e)
-
 split_not_halt : (code : ℕ) → Split ≡ HaltedWith code → ⊥
 split_not_halt code h = cc
 
 halting_not_split : (s t : State) (e : Event) → halting s e ≡ Some (Split, t) → ⊥
 halting_not_split s t (Went u) h = cc
-halting_not_split s t (Halted c) h = split_not_halt c (sym (both_same _ _ _ _ h).0)
+halting_not_split s t (Halted c) h = split_not_halt c (sym (some_pair_parts _ _ _ _ h).0)
 halting_not_split s t (Faulted f) h = cc
 
-code_same : (c d : ℕ) → HaltedWith c ≡ HaltedWith d → c ≡ d
+pub code_same : (c d : ℕ) → HaltedWith c ≡ HaltedWith d → c ≡ d
 code_same c d h = cc
 
 halting_is : (s t : State) (e : Event) (code : ℕ) → halting s e ≡ Some (HaltedWith code, t) → (s ≡ t) × (e ≡ Halted code)
 halting_is s t (Went u) code h = absurd (cc)
-halting_is s t (Halted c) code h = let (e, f) = both_same _ _ _ _ h in (f, ap Halted (code_same c code e))
+halting_is s t (Halted c) code h = let (e, f) = some_pair_parts _ _ _ _ h in (f, ap Halted (code_same c code e))
 halting_is s t (Faulted f) code h = absurd (cc)
 
 split_is : (o p : Option State) (t : State)
     → option_or (option_and_then split o) (option_and_then (λ s. halting s (step_of s)) p) ≡ Some (Split, t) → o ≡ Some t
-split_is (Some s) p t h = ap Some (both_same _ _ _ _ h).1
+split_is (Some s) p t h = ap Some (some_pair_parts _ _ _ _ h).1
 split_is None (Some s) t h = absurd (halting_not_split s t (step_of s) h)
 split_is None None t h = absurd (cc)
 
 halt_is : (o p : Option State) (t : State) (code : ℕ)
     → option_or (option_and_then split o) (option_and_then (λ s. halting s (step_of s)) p) ≡ Some (HaltedWith code, t)
     → (p ≡ Some t) × (step_of t ≡ Halted code)
-halt_is (Some s) p t code h = absurd (split_not_halt code (both_same _ _ _ _ h).0)
+halt_is (Some s) p t code h = absurd (split_not_halt code (some_pair_parts _ _ _ _ h).0)
 halt_is None (Some s) t code h =
     let (e, f) = halting_is s t (step_of s) code h in (ap Some e, ap step_of (sym e) ∙ f)
 halt_is None None t code h = absurd (cc)
@@ -131,12 +113,12 @@ halts seal code t h = halt_is _ _ t code h
 module _ (r s : State) (b : ℕ) (seal : Seal) (rest : List ℕ) (reached : after r b ≡ Some s) (fit : IsReady s) (supplied : s.words ≡ seal.words ++ rest)
     (clean : stop_of seal ≡ None) (some_steps : 0 < seal.steps) (begins : BeginsAt r b seal) where
   it_is : begins.state ≡ s
-  it_is = same_some begins.state s (sym begins.reached ∙ reached)
+  it_is = same_Some begins.state s (sym begins.reached ∙ reached)
 
   shows : Agree (opened_by seal) (memory_of seal) (full s)
   shows = subst (λ (u : State). Agree (opened_by seal) (memory_of seal) (full u)) it_is begins.shows
 
-  pub opens_registers : IsTrue (contains (opened_by seal) 262143)
+  pub opens_registers : Contains (opened_by seal) 262143
   unfolding after
   opens_registers = feet_open seal clean 0 (enter seal) some_steps refl 262143 (foot_has_registers (enter seal))
 
@@ -204,16 +186,16 @@ ready_like pages more t v fit same = record {
   is_word = let w : t.pc < 2 ^ 32 = fit.is_word in omega (arith, same.pc);
 }
 
+pub halted_not_faulted : (c : ℕ) (f : Fault) → Halted c ≡ Faulted f → ⊥
+halted_not_faulted c f e = cc
+
 -- the halting step of the last seal is the run's
 halts_too : (seal : Seal) (more : Beside) (t v : State) (code : ℕ) → stop_of seal ≡ None → 0 < seal.steps
     → after (enter seal) (seal.steps - 1) ≡ Some t → step_of t ≡ Halted code → IsReady t → Alike (opened_by seal) more t v → step_of v ≡ Halted code
 halts_too seal more t v code clean some near stops good like =
     let (foot, cost, events) = step_reads_its_foot (opened_by seal) more t v good.aligned like (feet_open seal clean (seal.steps - 1) t (omega arith) near)
-    (λ f. absurd (not_both code InputEnd (sym stops ∙ f))) in
+    (λ f. absurd (halted_not_faulted code InputEnd (sym stops ∙ f))) in
     like_halted (opened_by seal) more code (step_of v) (subst (λ (e : Event). AlikeEvents (opened_by seal) more e (step_of v)) stops events)
-  where
-    not_both : (c : ℕ) (f : Fault) → Halted c ≡ Faulted f → ⊥
-    not_both c f e = cc
 
 pub halts_at : (r : State) (m n code : ℕ) (journal journal' : List ℕ) (calls calls' : List AssumeCall) → n ≡ m → journal ≡ journal' → calls ≡ calls'
     → HaltsAfter r m code journal calls → HaltsAfter r n code journal' calls'
@@ -253,15 +235,10 @@ chain_runs r s b _ _ _ _ (link {seal} {seals} {code} {t} {journal} {calls} clean
     (ready_like (opened_by seal) (beside s (words_of seals)) t v runs.3 like)
     (like.words ∙ ap (λ ws. ws ++ words_of seals) (all_used seal Split t clean ends)))
 
-zeros : (n k : ℕ) → get_or {A = ℕ} (replicate n 0) k 0 ≡ 0
-zeros zero k = refl
-zeros (suc n) zero = refl
-zeros (suc n) (suc k) = zeros n k
-
 pub start_ready : (image : Image) (words : List ℕ) → IsImage image → IsReady (start image words)
 start_ready image words h = record {
   aligned = h.aligned;
-  registers = record { size = refl; zero_first = refl; are_words = λ n. omega (arith, zeros 32 n) };
+  registers = record { size = refl; zero_first = refl; are_words = λ n. omega (arith, get_or-same {A = ℕ} 32 n 0) };
   is_word = let low : image.entry < top = h.below in omega arith;
 }
 

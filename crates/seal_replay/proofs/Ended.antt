@@ -1,9 +1,9 @@
 -- What the end of a replay tells of the seal.
-use Rattle.std.proofs.Common.{◌≡◌, ◌≢◌, ℕ, Bool, cond, eqb, List, [], ◌∷◌, length, get_or, Option, Some, None, refl, sym, ap, ◌∙◌, arith, false}
+use Rattle.std.proofs.Common.{◌≡◌, ◌≢◌, ℕ, Bool, cond, eqb, List, [], length, get_or, Option, Some, None, sym, ap, ◌∙◌, arith, false}
 use Rattle.std.specs.Prelude.{option_and_then}
 use Rattle.std.specs.Option.{option_or}
 use Rattle.std.proofs.lemmas.Bool.Decides.{nat_tests}
-use Rattle.page_core.specs.Memory.{contains}
+use Rattle.page_core.specs.Memory.{is_among}
 use Rattle.rv_step.specs.Machine.{State, first_closed}
 use Rattle.rv_step.specs.Runs.{touched}
 use Rattle.claim_types.specs.declared.claim.Exit.{Exit}
@@ -18,18 +18,18 @@ use Rattle.seal_replay.proofs.Marked.{idle_same}
 pub step_stopped : (seal : Seal) (stop : ReplayStop) → first_below (step_stop seal) seal.steps ≡ Some stop → stop_of seal ≡ Some stop
 unfolding stop_of
 step_stopped seal stop h =
-    ap (λ (o : Option ReplayStop). option_or o (option_or (option_and_then words_stop (ending seal)) (idle_stop (first_closed (contains (touched (enter seal) seal.steps)) (opened_by seal))))) h
+    ap (λ (o : Option ReplayStop). option_or o (option_or (option_and_then words_stop (ending seal)) (idle_stop (first_closed (is_among (touched (enter seal) seal.steps)) (opened_by seal))))) h
 
 module _ (seal : Seal) (exit : Exit) (s : State) (marks : List Bool) (ended : HasEnded seal exit s marks) where
-  idle_is : first_closed (λ p. get_or marks p false) (opened_by seal) ≡ first_closed (contains (touched (enter seal) seal.steps)) (opened_by seal)
+  idle_is : first_closed (λ p. get_or marks p false) (opened_by seal) ≡ first_closed (is_among (touched (enter seal) seal.steps)) (opened_by seal)
   idle_is = idle_same (opened_by seal) marks (touched (enter seal) seal.steps) ended.marked
 
   -- after all steps the words and the marks decide
   late : stop_of seal ≡ option_or (words_stop (exit, s)) (idle_stop (first_closed (λ p. get_or marks p false) (opened_by seal)))
   unfolding stop_of
   late =
-      ap (λ (o : Option ReplayStop). option_or o (option_or (option_and_then words_stop (ending seal)) (idle_stop (first_closed (contains (touched (enter seal) seal.steps)) (opened_by seal))))) ended.clean
-      ∙ ap (λ (o : Option (Exit × State)). option_or (option_and_then words_stop o) (idle_stop (first_closed (contains (touched (enter seal) seal.steps)) (opened_by seal)))) ended.ends
+      ap (λ (o : Option ReplayStop). option_or o (option_or (option_and_then words_stop (ending seal)) (idle_stop (first_closed (is_among (touched (enter seal) seal.steps)) (opened_by seal))))) ended.clean
+      ∙ ap (λ (o : Option (Exit × State)). option_or (option_and_then words_stop o) (idle_stop (first_closed (is_among (touched (enter seal) seal.steps)) (opened_by seal)))) ended.ends
       ∙ ap (λ (o : Option ℕ). option_or (words_stop (exit, s)) (idle_stop o)) (sym idle_is)
 
   pub words_left : (count : ℕ) → count ≡ length s.words → count ≢ 0 → stop_of seal ≡ Some (Stop.WordsLeft count)
@@ -50,7 +50,3 @@ module _ (seal : Seal) (exit : Exit) (s : State) (marks : List Bool) (ended : Ha
   nothing_left none is =
       late ∙ ap (λ (o : Option ReplayStop). option_or o (idle_stop (first_closed (λ p. get_or marks p false) (opened_by seal)))) (no_words none)
       ∙ ap idle_stop (sym is)
-
-pub no_items : {A : Type 0} (xs : List A) → length xs ≡ 0 → xs ≡ []
-no_items [] h = refl
-no_items (x ∷ xs) h = absurd (omega (arith, h))

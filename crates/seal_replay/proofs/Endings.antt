@@ -1,9 +1,9 @@
 -- A replay without a stop has an end.
 use Rattle.std.proofs.Common.{◌≡◌, ◌⊎◌, inl, inr, ℕ, zero, suc, ◌+◌, ◌-◌, ◌≤◌, Bool, true, false, cond, eqb, List, Option, Some, None, refl, ap, ap₂, ◌∙◌, arith}
+use Rattle.std.proofs.lemmas.Bool.{eqb-true}
 use Rattle.std.specs.Prelude.{option_and_then, option_map}
 use Rattle.std.specs.Option.{option_or}
-use Rattle.std.proofs.lemmas.Bool.Decides.{nat_tests}
-use Rattle.page_core.specs.Memory.{contains}
+use Rattle.page_core.specs.Memory.{is_among}
 use Rattle.rv_step.specs.Machine.{State, Event, Went, Halted, Faulted, step_of, foot_of, first_closed}
 use Rattle.rv_step.specs.Runs.{after}
 use Rattle.rv_step.proofs.Runs.{step_on}
@@ -15,10 +15,8 @@ use Rattle.seal_replay.specs.declared.stop.ReplayStop.{ReplayStop}
 use Rattle.seal_replay.specs.declared.stop.ReplayStop.TheVariants as Stop
 use Rattle.seal_replay.specs.Claiming.{claim_at, unless, claim_of}
 use Rattle.seal_replay.specs.Laws.{UnstoppedEnds}
-use Rattle.seal_replay.proofs.Chains.{first_none, second_none, below_none, no_step_stop}
-
-pub number_same : (m n : ℕ) → eqb m n ≡ true → m ≡ n
-number_same m n h = grind (arith, nat_tests)
+use Rattle.page_core.proofs.Options.{first_none, second_none}
+use Rattle.seal_replay.proofs.Chains.{below_none, no_step_stop}
 
 pub cond_none : {A : Type 0} (b : Bool) (x : A) → cond b None (Some x) ≡ None → b ≡ true
 cond_none true x h = refl
@@ -37,7 +35,7 @@ Reaches seal n = ((u : State) × (after (enter seal) n ≡ Some u)) ⊎ HaltsAt 
 on_event : (seal : Seal) (m : ℕ) (u : State) (e : Event) → after (enter seal) m ≡ Some u → step_of u ≡ e → event_stop seal.steps m e ≡ None → Reaches seal (suc m)
 on_event seal m u (Went t) reached is h = inl (t, step_on (enter seal) m u t reached is)
 on_event seal m u (Halted code) reached is h =
-    let at_end : m + 1 ≡ seal.steps = number_same (m + 1) seal.steps (cond_none (eqb (m + 1) seal.steps) (Stop.EndsEarly m) h) in
+    let at_end : m + 1 ≡ seal.steps = eqb-true (m + 1) seal.steps (cond_none (eqb (m + 1) seal.steps) (Stop.EndsEarly m) h) in
     inr (record { state = u; code = code; last = omega (arith, at_end); reached = ap (after (enter seal)) (omega arith) ∙ reached; halts = is })
 on_event seal m u (Faulted fault) reached is h = absurd (cc)
 
@@ -48,7 +46,7 @@ reaches seal clean (suc m) low =
     elim (reaches seal clean m (omega arith)) [
       | inl r ↦
           on_event seal m r.0 (step_of r.0) r.1 refl
-          (second_none (page_stop m (first_closed (contains (opened_by seal)) (foot_of r.0))) (event_stop seal.steps m (step_of r.0))
+          (second_none (page_stop m (first_closed (is_among (opened_by seal)) (foot_of r.0))) (event_stop seal.steps m (step_of r.0))
           (no_step_stop seal m r.0 (below_none (step_stop seal) seal.steps m clean (omega arith)) r.1))
       | inr r ↦ let last = r.last in absurd (omega (arith, last))
     ]

@@ -1,9 +1,10 @@
 -- The registers that a replay begins with.
 use Rattle.std.proofs.Common.{◌≡◌, ℕ, zero, suc, ◌+◌, ◌*◌, ◌/◌, ◌%◌, ◌^◌, ◌<◌, ◌≤◌, List, ◌∷◌, get_or, length, set, replicate, refl, sym, ap, ◌∙◌, arith, mod-eq_of_lt, length-set, get_or-set_same, get_or-set_other, ⊎_elim, Bool, false, Option, Some, None}
 use Rattle.std.specs.Int.{w32, from_le_bytes}
+use Rattle.page_core.proofs.Zeros.{get_or-same, zero_byte}
 use Rattle.std.proofs.lemmas.List.{ext_get_or}
 use Rattle.std.proofs.lemmas.Bool.Decides.{eqb_tells}
-use Rattle.std.specs.Prelude.{unwrap_or, is_some}
+use Rattle.std.specs.Prelude.{unwrap_or}
 use Rattle.page_core.specs.Pages.{zero_page}
 use Rattle.page_core.specs.Memories.{flat}
 use Rattle.rv_step.specs.Opened.{page_in, pages_in}
@@ -21,7 +22,7 @@ pub record AreShown (m : ℕ → ℕ) (x : List ℕ) (n : ℕ) : Type 0 where
   pub zero_first : get_or x 0 0 ≡ 0
   pub shown : (j : ℕ) → 1 ≤ j → j < n → get_or x j 0 ≡ shown_word m j
 
-length-words_at : (m : ℕ → ℕ) (a n : ℕ) → length (words_at m a n) ≡ n
+pub length-words_at : (m : ℕ → ℕ) (a n : ℕ) → length (words_at m a n) ≡ n
 unfolding words_at
 length-words_at m a zero = refl
 length-words_at m a (suc n) = ap suc (length-words_at m (a + 4) n)
@@ -65,26 +66,20 @@ all_shown m x are = ext_get_or 0 x (0 ∷ words_at m (top + 4) 31) (are.size ∙
         ∙ ap (λ (b : ℕ). from_le_bytes w32 (bytes m b 4)) (omega arith)
         ∙ sym (get_or-words_at m (top + 4) 31 k (omega arith))
 
-zero_in : (n k : ℕ) → get_or {A = ℕ} (replicate n 0) k 0 ≡ 0
-zero_in zero k = refl
-zero_in (suc n) zero = refl
-zero_in (suc n) (suc k) = zero_in n k
-
-zero_byte : (pages : List (Option (List ℕ))) (a : ℕ) → page_in pages 262143 ≡ None → a / 1024 ≡ 262143 → flat (pages_in pages) a ≡ 0
-unfolding zero_page
-zero_byte pages a shut at =
+shut_byte : (pages : List (Option (List ℕ))) (a : ℕ) → page_in pages 262143 ≡ None → a / 1024 ≡ 262143 → flat (pages_in pages) a ≡ 0
+shut_byte pages a shut at =
     ap (λ (n : ℕ). get_or (unwrap_or (page_in pages n) zero_page) (a % 1024) 0) at
     ∙ ap (λ (o : Option (List ℕ)). get_or (unwrap_or o zero_page) (a % 1024) 0) shut
-    ∙ zero_in 1024 (a % 1024)
+    ∙ zero_byte (a % 1024)
 
 zero_word : (pages : List (Option (List ℕ))) (a : ℕ) → page_in pages 262143 ≡ None → top ≤ a → a + 4 ≤ top + 1024
     → from_le_bytes w32 (bytes (flat (pages_in pages)) a 4) ≡ 0
 unfolding bytes
 zero_word pages a shut low high =
-    let b0 = zero_byte pages a shut (omega arith) in
-    let b1 = zero_byte pages (a + 1) shut (omega arith) in
-    let b2 = zero_byte pages (a + 1 + 1) shut (omega arith) in
-    let b3 = zero_byte pages (a + 1 + 1 + 1) shut (omega arith) in
+    let b0 = shut_byte pages a shut (omega arith) in
+    let b1 = shut_byte pages (a + 1) shut (omega arith) in
+    let b2 = shut_byte pages (a + 1 + 1) shut (omega arith) in
+    let b3 = shut_byte pages (a + 1 + 1 + 1) shut (omega arith) in
     rw (b0, b1, b2, b3) refl
 
 -- where the register page isn't open the registers are zero
@@ -92,9 +87,5 @@ pub none_shown : (pages : List (Option (List ℕ))) → page_in pages 262143 ≡
 none_shown pages shut = record {
   size = refl;
   zero_first = refl;
-  shown = λ j from below. zero_in 32 j ∙ sym (zero_word pages (top + 4 * j) shut (omega arith) (omega arith));
+  shown = λ j from below. get_or-same 32 j 0 ∙ sym (zero_word pages (top + 4 * j) shut (omega arith) (omega arith));
 }
-
-pub no_page : {A : Type 0} (o : Option A) (b : Bool) → b ≡ is_some o → b ≡ false → o ≡ None
-no_page (Some x) b e f = absurd (cc)
-no_page None b e f = refl

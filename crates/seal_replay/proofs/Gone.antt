@@ -1,30 +1,30 @@
 -- The steps of a replay, one after the other.
-use Rattle.std.proofs.Common.{◌≡◌, ◌≢◌, ℕ, zero, suc, ◌+◌, ◌-◌, ◌<◌, ⊎_elim, Ok, Err, Bool, true, false, cond, eqb, List, [], ◌++◌, length, Option, Some, None, refl, sym, ap, ap₂, ◌∙◌, subst, arith, IsTrue}
-use Rattle.std.specs.Prelude.{option_and_then}
+use Rattle.std.proofs.Common.{◌≡◌, ◌≢◌, ℕ, zero, suc, ◌+◌, ◌-◌, ◌<◌, ⊎_elim, Ok, Err, Bool, true, false, cond, eqb, List, [], ◌++◌, length, Option, Some, None, refl, sym, ap, ap₂, ◌∙◌, subst, arith}
+use Rattle.std.specs.Prelude.{Contains, option_and_then}
+use Rattle.std.proofs.lemmas.Option.{none-some}
+use Rattle.std.proofs.lemmas.Bool.{eqb-true}
 use Rattle.std.specs.Option.{option_or}
 use Rattle.std.proofs.lemmas.Bool.Decides.{nat_tests, eqb_tells}
 use Rattle.rv_isa.specs.declared.fault.Fault.{Fault}
 use Rattle.rv_isa.specs.declared.fault.Fault.TheVariants.{Illegal, BadAddress, Misaligned, BadTarget, Break, BadCall, BadArgs, InputEnd}
-use Rattle.page_core.specs.Memory.{contains}
+use Rattle.page_core.specs.Memory.{is_among}
 use Rattle.rv_step.specs.Machine.{State, Event, Went, Halted, Faulted, step_of, foot_of, first_closed}
 use Rattle.rv_step.specs.Runs.{after, touched, pages_at, state_gone}
-use Rattle.rv_step.specs.Stepping.{IsStepOf}
+use Rattle.rv_step.specs.Stepping.{IsStepOf, looked_of}
 use Rattle.rv_step.specs.declared.stepping.Event.TheVariants as E
 use Rattle.rv_step.specs.declared.stepping.StepStop.TheVariants as S
 use Rattle.rv_step.proofs.Runs.{step_on}
-use Rattle.part_tree.proofs.Splits.{both_none}
+use Rattle.page_core.proofs.Options.{both_none, second_none}
 use Rattle.claim_types.specs.declared.claim.Exit.TheVariants.{Split, Halted as HaltedWith}
 use Rattle.receipt_types.specs.Seals.{Seal}
 use Rattle.seal_replay.specs.declared.stop.ReplayStop.{ReplayStop}
 use Rattle.seal_replay.specs.declared.stop.ReplayStop.TheVariants as Stop
 use Rattle.seal_replay.specs.Replay.{opened_by, enter, fault_stop, page_stop, event_stop, stop_at, step_stop, first_below, ending, halting, split}
 use Rattle.seal_replay.specs.Replaying.{AreMarked, AreAlsoMarked, IsEvent, HasGone, HasEnded}
-use Rattle.rv_step.specs.Stepping.{looked_of}
 use Rattle.rv_step.proofs.Looks.{looks_missed}
 use Rattle.rv_step.proofs.Steps.{first_in_fetch}
 use Rattle.seal_replay.proofs.Marked.{also_marked}
-use Rattle.seal_replay.proofs.Chains.{second_none}
-use Rattle.seal_replay.proofs.Endings.{number_same, cond_none}
+use Rattle.seal_replay.proofs.Endings.{cond_none}
 
 -- ---- one step
 tested : (opens : ℕ → Bool) (steps k : ℕ) (s : State) (o : Option ℕ) (e : Event) → first_closed opens (foot_of s) ≡ o → step_of s ≡ e
@@ -67,7 +67,7 @@ module _ (opens : ℕ → Bool) (steps k : ℕ) (s t : State) where
 -- a step that halts and isn't stopped is the last
 last_step : (opens : ℕ → Bool) (steps k : ℕ) (s : State) (code : ℕ) → stop_at opens steps k s ≡ None → step_of s ≡ Halted code → k + 1 ≡ steps
 last_step opens steps k s code none halts =
-    number_same (k + 1) steps
+    eqb-true (k + 1) steps
     (cond_none (eqb (k + 1) steps) (Stop.EndsEarly k)
     (sym (ap (event_stop steps k) halts) ∙ second_none (page_stop k (first_closed opens (foot_of s))) (event_stop steps k (step_of s)) none))
 
@@ -96,27 +96,27 @@ unfolding after first_below touched
 gone_none seal s marks enters unmarked = record { reached = ap Some enters; clean = refl; marked = unmarked }
 
 module _ (seal : Seal) (s : State) (before : List Bool) (k : ℕ) (gone : HasGone seal s before k) where
-  stop_here : step_stop seal k ≡ stop_at (contains (opened_by seal)) seal.steps k s
+  stop_here : step_stop seal k ≡ stop_at (is_among (opened_by seal)) seal.steps k s
   unfolding step_stop
-  stop_here = ap (option_and_then (stop_at (contains (opened_by seal)) seal.steps k)) gone.reached
+  stop_here = ap (option_and_then (stop_at (is_among (opened_by seal)) seal.steps k)) gone.reached
 
-  clean_on : stop_at (contains (opened_by seal)) seal.steps k s ≡ None → first_below (step_stop seal) (suc k) ≡ None
+  clean_on : stop_at (is_among (opened_by seal)) seal.steps k s ≡ None → first_below (step_stop seal) (suc k) ≡ None
   unfolding first_below
   clean_on none = both_none (first_below (step_stop seal) k) (step_stop seal k) gone.clean (stop_here ∙ none)
 
   -- a stop of this step is the first
-  pub stopped_at : (opens : ℕ → Bool) (stop : ReplayStop) → opens ≡ contains (opened_by seal) → k < seal.steps → stop_at opens seal.steps k s ≡ Some stop
+  pub stopped_at : (opens : ℕ → Bool) (stop : ReplayStop) → opens ≡ is_among (opened_by seal) → k < seal.steps → stop_at opens seal.steps k s ≡ Some stop
       → first_below (step_stop seal) seal.steps ≡ Some stop
   stopped_at opens stop same low is =
       first_some (step_stop seal) k seal.steps stop gone.clean (stop_here ∙ ap (λ (o : ℕ → Bool). stop_at o seal.steps k s) (sym same) ∙ is) low
 
-  module _ (opens : ℕ → Bool) (same : opens ≡ contains (opened_by seal)) (after' : List Bool) (t : State)
-      (within : (p : ℕ) → IsTrue (contains (opened_by seal) p) → p < length before) (more : AreAlsoMarked before after' (foot_of s)) where
+  module _ (opens : ℕ → Bool) (same : opens ≡ is_among (opened_by seal)) (after' : List Bool) (t : State)
+      (within : (p : ℕ) → Contains (opened_by seal) p → p < length before) (more : AreAlsoMarked before after' (foot_of s)) where
     marked_on : AreMarked (opened_by seal) after' (touched (enter seal) (suc k))
     unfolding touched
     marked_on p h =
         also_marked (opened_by seal) before after' (touched (enter seal) k) (foot_of s) within gone.marked more p h
-        ∙ ap (λ (o : Option State). contains (touched (enter seal) k ++ pages_at o) p) (sym gone.reached)
+        ∙ ap (λ (o : Option State). is_among (touched (enter seal) k ++ pages_at o) p) (sym gone.reached)
 
     pub gone_on : IsEvent opens seal.steps k s t E.Went → HasGone seal t after' (k + 1)
     gone_on event =
@@ -128,7 +128,7 @@ module _ (seal : Seal) (s : State) (before : List Bool) (k : ℕ) (gone : HasGon
     pub gone_last : (code : ℕ) → k < seal.steps → IsEvent opens seal.steps k s t (E.Halted code) → HasEnded seal (HaltedWith code) t after'
     gone_last code low event =
         let (none, halts, as_before) = subst (λ (o : ℕ → Bool). IsEvent o seal.steps k s t (E.Halted code)) same event in
-        let steps : suc k ≡ seal.steps = add-one-here k ∙ last_step (contains (opened_by seal)) seal.steps k s code none halts in
+        let steps : suc k ≡ seal.steps = add-one-here k ∙ last_step (is_among (opened_by seal)) seal.steps k s code none halts in
         let ended : HasEnded seal (HaltedWith code) s after' = record {
           ends = ends_at seal s k code steps gone.reached halts;
           clean = ap (first_below (step_stop seal)) (sym steps) ∙ clean_on none;
@@ -150,7 +150,4 @@ gone_all seal s marks gone = record {
 
 -- what can't be looked at has a closed page
 pub not_looked : (opens : ℕ → Bool) (s : State) (page : ℕ) → Err page ≡ looked_of opens s → first_closed opens (foot_of s) ≡ None → ⊥
-not_looked opens s page h none = some_none page (sym (first_in_fetch opens s page (looks_missed opens s page h)) ∙ none)
-  where
-    some_none : (n : ℕ) → Some n ≡ None → ⊥
-    some_none n e = cc
+not_looked opens s page h none = none-some page (sym none ∙ first_in_fetch opens s page (looks_missed opens s page h))

@@ -7,4 +7,4 @@ pub mod Entered
 pub mod Gone
 pub mod Ended
 pub mod Written
-pub mod Put
+pub mod Puts

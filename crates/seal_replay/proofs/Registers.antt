@@ -1,11 +1,12 @@
 -- The registers that a seal shows are those of the state.
-use Rattle.std.proofs.Common.{◌≡◌, ℕ, zero, suc, ◌+◌, ◌-◌, ◌*◌, ◌/◌, ◌^◌, ◌<◌, ◌≤◌, Bool, true, false, cond, ◌&&◌, leb, ltb, List, [], ◌∷◌, length, get_or, drop, refl, sym, ap, ap₂, ◌∙◌, arith, IsTrue}
+use Rattle.std.proofs.Common.{◌≡◌, ℕ, zero, suc, ◌+◌, ◌-◌, ◌*◌, ◌/◌, ◌^◌, ◌<◌, ◌≤◌, Bool, true, false, cond, ◌&&◌, leb, ltb, List, [], ◌∷◌, length, get_or, drop, refl, sym, ap, ap₂, ◌∙◌, arith, IsTrue, ◌%◌, subst}
 use Rattle.std.specs.Int.{w32, to_le_bytes, from_le_bytes}
 use Rattle.std.specs.List.{flat_map}
 use Rattle.std.proofs.lemmas.Bool.Decides.{nat_tests}
 use Rattle.std.proofs.lemmas.List.{get_or_append_left}
 use Rattle.std.proofs.lemmas.Nat.{from_le_bytes-to_le_bytes_4}
-use Rattle.page_core.specs.Memory.{top, bytes, put, contains, Agree}
+use Rattle.page_core.specs.Memory.{top, bytes, put, Agree}
+use Rattle.std.specs.Prelude.{Contains}
 use Rattle.rv_step.specs.Machine.{State, full, full_of}
 use Rattle.seal_replay.specs.Replay.{words_at, registers_in}
 use Rattle.rv_isa.specs.Registers.{AreRegisters}
@@ -51,11 +52,11 @@ registers_same : (m n : ℕ → ℕ) → ((j : ℕ) → top ≤ j → j < top + 
 unfolding registers_in
 registers_same m n h = ap (◌∷◌ 0) (words_at-same m n (top + 4) 31 (λ j lo hi. h j (omega arith) (omega arith)))
 
-pub registers_shown : (opened : List ℕ) (m : ℕ → ℕ) (s : State) → AreRegisters s.x → IsTrue (contains opened 262143) → Agree opened m (full s)
+pub registers_shown : (opened : List ℕ) (m : ℕ → ℕ) (s : State) → AreRegisters s.x → Contains opened 262143 → Agree opened m (full s)
     → registers_in m ≡ s.x
 registers_shown opened m s fit shown agree =
     registers_same m (full s)
-    (λ j lo hi. agree.at j (let e : j / 1024 ≡ 262143 = omega arith in rw e shown))
+    (λ j lo hi. agree.at j (let e : j / 1024 ≡ 262143 = omega arith in subst (Contains opened) (sym e) shown))
     ∙ registers_back s.memory s.x fit
 
 -- a memory that shows the full memory of a state shows it with the state's registers written into it once more

@@ -2,9 +2,9 @@
 use Rattle.std.proofs.Common.{◌≡◌, ◌≢◌, ℕ, zero, suc, ◌+◌, ◌-◌, ◌*◌, ◌/◌, ◌%◌, ◌<◌, ◌≤◌, Bool, true, false, List, [], ◌∷◌, get_or, length, take, drop, Option, Some, None, refl, sym, ap, ◌∙◌, arith, IsTrue, inl, inr, ◌⊎◌}
 use Rattle.std.specs.Int.{w32, to_le_bytes}
 use Rattle.std.specs.List.{flat_map}
+use Rattle.std.proofs.lemmas.Bool.{true≢false}
+use Rattle.page_core.proofs.Zeros.{zeros_are}
 use Rattle.std.specs.Prelude.{is_some, unwrap_or}
-use Rattle.std.proofs.lemmas.List.{length-replicate}
-use Rattle.std.proofs.lemmas.List.Elements.{All-replicate}
 use Rattle.std.proofs.lemmas.Bool.Decides.{leb_tells}
 use Rattle.std.proofs.Math.Seq.{take-length}
 use Rattle.page_core.specs.Memory.{top, put}
@@ -13,7 +13,7 @@ use Rattle.page_core.specs.Memories.{flat, page_of}
 use Rattle.page_core.proofs.Bytes.{put-outside, length-words, page_same, bytes_hold_pages}
 use Rattle.rv_step.specs.Machine.{full_of}
 use Rattle.rv_step.specs.Opened.{page_in, pages_in}
-use Rattle.rv_step.proofs.Words.{word_put, none_put}
+use Rattle.rv_step.proofs.Words.{none_put, full_up_to, one_more_full, all_full}
 
 -- ---- one page
 -- a page of 1,024 bytes is that of the memory that the pages make
@@ -21,10 +21,6 @@ page_shown : (pages : Pages) (i : ℕ) (page : List ℕ) → pages i ≡ page �
 page_shown pages i page is shape =
     page_same (flat pages) (flat (λ _. page)) i (λ a at. ap (λ (bs : List ℕ). get_or bs (a % 1024) 0) (ap pages at ∙ is))
     ∙ bytes_hold_pages (λ _. page) i (λ _. shape)
-
-zeros_are : IsPage zero_page
-unfolding zero_page
-zeros_are = (length-replicate {A = ℕ} 1024 0, All-replicate (λ (b : ℕ). b < 256) 1024 0 (omega arith))
 
 -- so is an open page, and zeros where none is open
 pub open_shown : (pages : List (Option (List ℕ))) (i : ℕ) (page : List ℕ) → Some page ≡ page_in pages i → IsPage page → page_of (flat (pages_in pages)) i ≡ page
@@ -37,7 +33,7 @@ shut_shown pages i is = page_shown (pages_in pages) i zero_page (ap (λ (o : Opt
 -- the registers from x1 to that before n are written into the memory of the pages, and the same pages are open
 pub record AreWritten (old new : List (Option (List ℕ))) (x : List ℕ) (n : ℕ) : Type 0 where
   pub opens : ◌≡◌ {A = ℕ → Bool} (λ page. is_some (page_in new page)) (λ page. is_some (page_in old page))
-  pub written : flat (pages_in new) ≡ put (flat (pages_in old)) (top + 4) (flat_map (to_le_bytes w32) (take (n - 1) (drop 1 x)))
+  pub written : flat (pages_in new) ≡ full_up_to (flat (pages_in old)) x n
 
 pub written_none : (old : List (Option (List ℕ))) (x : List ℕ) → AreWritten old old x 1
 written_none old x = record { opens = refl; written = none_put (flat (pages_in old)) (top + 4) }
@@ -45,29 +41,17 @@ written_none old x = record { opens = refl; written = none_put (flat (pages_in o
 pub written_next : (old mid new : List (Option (List ℕ))) (x : List ℕ) (n v at : ℕ) → AreWritten old mid x n → 1 ≤ n → n < 32 → length x ≡ 32
     → v ≡ get_or x n 0 → at ≡ top + 4 * n → ◌≡◌ {A = ℕ → Bool} (λ page. is_some (page_in new page)) (λ page. is_some (page_in mid page))
     → flat (pages_in new) ≡ put (flat (pages_in mid)) at (to_le_bytes w32 v) → AreWritten old new x (n + 1)
-written_next old mid new [] n v at before some low size is there opens after = absurd (omega (arith, size))
-written_next old mid new (y ∷ x) zero v at before some low size is there opens after = absurd (omega arith)
-written_next old mid new (y ∷ x) (suc k) v at before some low size is there opens after =
-    let this : suc k - 1 ≡ k = omega arith in
-    let next : suc k + 1 - 1 ≡ suc k = omega arith in
-    record {
-      opens = opens ∙ before.opens;
-      written =
-          word_put (flat (pages_in old)) (flat (pages_in mid)) (flat (pages_in new)) (top + 4) at k v x (omega (arith, size)) (omega (arith, there)) is
-          (before.written ∙ ap (λ (j : ℕ). put (flat (pages_in old)) (top + 4) (flat_map (to_le_bytes w32) (take j x))) this) after
-          ∙ ap (λ (j : ℕ). put (flat (pages_in old)) (top + 4) (flat_map (to_le_bytes w32) (take j x))) (sym next);
-    }
+written_next old mid new x n v at before some low size is there opens after = record {
+  opens = opens ∙ before.opens;
+  written = one_more_full (flat (pages_in old)) (flat (pages_in mid)) (flat (pages_in new)) x n v at before.written some low size is there after;
+}
 
 pub still_open : (old new : List (Option (List ℕ))) (x : List ℕ) (n at : ℕ) → AreWritten old new x n → at ≡ 262143 → is_some (page_in old 262143) ≡ true
     → IsTrue (is_some (page_in new at))
 still_open old new x n at are here shown = ap (λ (p : ℕ). is_some (page_in new p)) here ∙ ap (λ (f : ℕ → Bool). f 262143) are.opens ∙ shown
 
 pub written_all : (old new : List (Option (List ℕ))) (x : List ℕ) → AreWritten old new x 32 → length x ≡ 32 → flat (pages_in new) ≡ full_of (flat (pages_in old)) x
-unfolding full_of
-written_all old new [] are size = absurd (omega (arith, size))
-written_all old new (y ∷ x) are size =
-    let rest : 32 - 1 ≡ length x = omega (arith, size) in
-    are.written ∙ ap (λ (xs : List ℕ). put (flat (pages_in old)) (top + 4) (flat_map (to_le_bytes w32) xs)) (ap (λ (j : ℕ). take j x) rest ∙ take-length x)
+written_all old new x are size = are.written ∙ all_full (flat (pages_in old)) x 32 refl size
 
 -- no other page than the register page changes
 elsewhere : (m : ℕ → ℕ) (x : List ℕ) (p : ℕ) → length x ≡ 32 → p ≢ 262143 → page_of m p ≡ page_of (full_of m x) p
@@ -86,7 +70,4 @@ elsewhere m (y ∷ x) p size other =
 -- where the register page isn't open, no open page changes
 pub none_written : (pages : List (Option (List ℕ))) (x : List ℕ) → length x ≡ 32 → is_some (page_in pages 262143) ≡ false
     → (p : ℕ) → IsTrue (is_some (page_in pages p)) → page_of (flat (pages_in pages)) p ≡ page_of (full_of (flat (pages_in pages)) x) p
-none_written pages x size shut p shown = elsewhere (flat (pages_in pages)) x p size (λ same. apart (sym shown ∙ ap (λ (q : ℕ). is_some (page_in pages q)) same ∙ shut))
-  where
-    apart : true ≡ false → ⊥
-    apart h = cc
+none_written pages x size shut p shown = elsewhere (flat (pages_in pages)) x p size (λ same. true≢false (sym shown ∙ ap (λ (q : ℕ). is_some (page_in pages q)) same ∙ shut))

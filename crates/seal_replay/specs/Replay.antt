@@ -2,7 +2,7 @@
 use Rattle.std.specs.Prelude.{ℕ, zero, suc, ◌+◌, ◌-◌, Bool, cond, eqb, List, [], ◌∷◌, length, Option, Some, None, option_and_then}
 use Rattle.std.specs.Int.{w32, from_le_bytes}
 use Rattle.rv_isa.specs.declared.fault.Fault.{Fault}
-use Rattle.page_core.specs.Memory.{top, bytes, contains}
+use Rattle.page_core.specs.Memory.{top, bytes, is_among}
 use Rattle.rv_step.specs.Machine.{State, Event, Went, Halted, Faulted, step_of, foot_of, first_closed}
 use Rattle.rv_step.specs.Runs.{after, touched}
 use Rattle.page_core.specs.Memories.{flat}
@@ -60,7 +60,7 @@ first_below f zero = None
 first_below f (suc n) = option_or (first_below f n) (f n)
 
 unfoldable pub step_stop : Seal → ℕ → Option ReplayStop
-step_stop seal k = option_and_then (stop_at (contains (opened_by seal)) seal.steps k) (after (enter seal) k)
+step_stop seal k = option_and_then (stop_at (is_among (opened_by seal)) seal.steps k) (after (enter seal) k)
 
 -- how a seal's steps end, with the state there; a halt changes none
 abbrev pub halting : State → Event → Option (Exit × State)
@@ -87,4 +87,4 @@ unfoldable pub stop_of : Seal → Option ReplayStop
 stop_of seal =
     option_or (first_below (step_stop seal) seal.steps)
     (option_or (option_and_then words_stop (ending seal))
-    (idle_stop (first_closed (contains (touched (enter seal) seal.steps)) (opened_by seal))))
+    (idle_stop (first_closed (is_among (touched (enter seal) seal.steps)) (opened_by seal))))

@@ -1,6 +1,6 @@
 -- How far a replay has come, and how it ends.
-use Rattle.std.specs.Prelude.{◌≡◌, ℕ, ◌<◌, ◌||◌, Bool, false, List, [], length, slice_index_or, Some, None, IsTrue, is_some}
-use Rattle.page_core.specs.Memory.{contains}
+use Rattle.std.specs.Prelude.{◌≡◌, ℕ, ◌<◌, ◌||◌, Bool, false, List, [], length, Contains, slice_index_or, Some, None, is_some}
+use Rattle.page_core.specs.Memory.{is_among}
 use Rattle.page_core.specs.Memories.{flat}
 use Rattle.rv_step.specs.Machine.{State, Went, Halted, step_of}
 use Rattle.rv_step.specs.Runs.{after, touched}
@@ -14,11 +14,11 @@ use Rattle.seal_replay.specs.declared.replaying.Replayed.{Replayed}
 
 -- of the open pages those are marked that are among these
 abbrev pub AreMarked : List ℕ → List Bool → List ℕ → Type 0
-AreMarked opened marks pages = (p : ℕ) → IsTrue (contains opened p) → slice_index_or marks p false ≡ contains pages p
+AreMarked opened marks pages = (p : ℕ) → Contains opened p → slice_index_or marks p false ≡ is_among pages p
 
 -- these pages are marked besides
 abbrev pub AreAlsoMarked : List Bool → List Bool → List ℕ → Type 0
-AreAlsoMarked before after pages = (p : ℕ) → p < length before → slice_index_or after p false ≡ (slice_index_or before p false || contains pages p)
+AreAlsoMarked before after pages = (p : ℕ) → p < length before → slice_index_or after p false ≡ (slice_index_or before p false || is_among pages p)
 
 -- step k leads from s to t with this event, and nothing stops it
 abbrev pub IsEvent : (ℕ → Bool) → ℕ → ℕ → State → State → StepEvent → Type 0
@@ -44,6 +44,6 @@ state_of r =
 
 -- nothing stops the replay, and it ends so, with the tree's pages still open
 pub record EndsSo (seal : Seal) (r : Replayed) : Type 0 where
-  pub opens : (n : ℕ) → is_some (page_in r.pages n) ≡ contains (opened_by seal) n
+  pub opens : (n : ℕ) → is_some (page_in r.pages n) ≡ is_among (opened_by seal) n
   pub clean : stop_of seal ≡ None
   pub ends : ending seal ≡ Some (r.exit, state_of r)

@@ -1,6 +1,6 @@
 //! What a seal claims.
 ghost use Rattle.std.specs.Prelude.{◌≡◌, ℕ, ◌-◌, ◌%◌, ◌^◌, ◌<◌, ◌≤◌, ◌⊎◌, Some, IfOk, IfErr, IsTrue, is_some};
-ghost use Rattle.page_core.specs.Memory.{contains};
+ghost use Rattle.page_core.specs.Memory.{is_among};
 ghost use Rattle.page_core.specs.Memories.{flat, page_of};
 ghost use Rattle.part_tree.specs.Part.{IsPart, root_of, opened, put};
 ghost use Rattle.part_tree.specs.Views.{part};
@@ -61,7 +61,7 @@ pub fn replay<D: Digester>(alloc: Global, seal: &Seal) -> Result<SpanClaim, Repl
 // The root of a tree with these pages in its open pages, once the registers are written into them.
 fn root_after<D: Digester>(tree: &PartTree, regs: &Regs, mut pages: OpenPages) -> Digest
     requires shape { IsPart 18 (part tree.now) }
-    requires open { (n : ℕ) → is_some (page_in pages n) ≡ contains (opened 0 (part tree.now)) n }
+    requires open { (n : ℕ) → is_some (page_in pages n) ≡ is_among (opened 0 (part tree.now)) n }
     ensures { result ≡ root_of D.digest_of (put 0 (part tree.now) (page_of (full_of (flat (pages_in pages)) regs.now))) }
 {
     write_registers(&mut pages, regs);

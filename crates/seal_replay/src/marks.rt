@@ -1,6 +1,6 @@
 //! Marks of the pages that a replay touched.
 ghost use Rattle.std.specs.Prelude.{◌≡◌, ℕ, ◌<◌, ◌||◌, IfOk, replicate, length, set, slice_index_or, true, false};
-ghost use Rattle.page_core.specs.Memory.{contains};
+ghost use Rattle.page_core.specs.Memory.{is_among};
 ghost use Rattle.rv_step.specs.Machine.{first_closed};
 
 use std::alloc::{AllocError, Global};
@@ -28,7 +28,7 @@ fn mark(marks: &mut [bool], page: u32)
 // Sets the marks of these pages.
 pub(crate) fn mark_all(marks: &mut [bool], pages: &[u32])
     ensures size { length marks.new ≡ length marks.old }
-    ensures marks { (p : ℕ) → p < length marks.old → slice_index_or marks.new p false ≡ (slice_index_or marks.old p false || contains pages.now p) }
+    ensures marks { (p : ℕ) → p < length marks.old → slice_index_or marks.new p false ≡ (slice_index_or marks.old p false || is_among pages.now p) }
 {
     for page in pages {
         mark(marks, *page);

@@ -1,5 +1,5 @@
-ghost use Rattle.std.specs.Prelude.{◌≡◌, ℕ, ◌+◌, ◌-◌, ◌<◌, ◌%◌, ◌==◌, ◌⊎◌, [], length, IfOk, IfErr, IsTrue, Some, None};
-ghost use Rattle.page_core.specs.Memory.{contains};
+ghost use Rattle.std.specs.Prelude.{◌≡◌, ℕ, ◌+◌, ◌-◌, ◌<◌, ◌%◌, ◌==◌, ◌⊎◌, [], length, IfOk, IfErr, Contains, Some, None};
+ghost use Rattle.page_core.specs.Memory.{is_among};
 ghost use Rattle.part_tree.specs.Part.{IsPart};
 ghost use Rattle.rv_step.specs.Machine.{first_closed, foot_of, step_of};
 ghost use Rattle.rv_step.specs.Tapes.{Log};
@@ -93,9 +93,9 @@ fn run<B: Bus>(
     marks: &mut [bool],
 ) -> Result<Exit, ReplayStop>
     requires aligned { core.old.pc % 4 ≡ 0 }
-    requires opens { B.opens bus.old ≡ contains (opened_by seal.now) }
+    requires opens { B.opens bus.old ≡ is_among (opened_by seal.now) }
     requires enters { enter seal.now ≡ state_at core.old (B.byte_at bus.old) tape.old log.old }
-    requires size { (p : ℕ) → IsTrue (contains (opened_by seal.now) p) → p < length marks.old }
+    requires size { (p : ℕ) → Contains (opened_by seal.now) p → p < length marks.old }
     requires unmarked { AreMarked (opened_by seal.now) marks.old [] }
     ensures same_pages { B.opens bus.new ≡ B.opens bus.old }
     ensures ended { IfOk result (λ exit. HasEnded seal.now exit (state_at core.new (B.byte_at bus.new) tape.new log.new) marks.new) }

@@ -1,5 +1,6 @@
 -- What is joined after some of a run's cuts, and after all of them. H is the digest function.
 use Rattle.std.proofs.Common.{◌≡◌, ◌≢◌, ℕ, zero, suc, ◌+◌, ◌<◌, ◌≤◌, List, [], ◌∷◌, ◌++◌, length, take, Option, Some, None, is_some, IsTrue, refl, sym, ap, ◌∙◌, subst, arith}
+use Rattle.receipt_types.proofs.Limits.{AllSealLimits-push}
 use Rattle.std.specs.Prelude.{IfSome}
 use Rattle.page_core.specs.Images.{Image, IsImage}
 use Rattle.page_core.specs.Memory.{top, ascending}
@@ -11,7 +12,8 @@ use Rattle.rv_step.specs.Runs.{start, after, touched, IsOutcome}
 use Rattle.rv_step.specs.Laws.{IsReady}
 use Rattle.rv_step.specs.declared.outcome.Outcome.{Outcome}
 use Rattle.rv_step.specs.declared.outcome.Outcome.TheVariants.{Halted as HaltedAt, Faulted as FaultedAt, OverLimit as Over}
-use Rattle.rv_step.proofs.Runs.{same_some, after-add}
+use Rattle.std.proofs.lemmas.Option.{same_Some}
+use Rattle.rv_step.proofs.Runs.{after-add}
 use Rattle.claim_types.specs.declared.claim.Exit.TheVariants.{Halted}
 use Rattle.claim_types.specs.Claims.{SpanClaim}
 use Rattle.receipt_types.specs.Seals.{Seal}
@@ -38,7 +40,7 @@ use Rattle.session.proofs.Chains.{stretches_chain, segments_chain, some_segments
 -- ---- lists, one item after the other
 take_next : {A : Type 0} (xs : List A) (n : ℕ) (x : A) → item xs n ≡ Some x → take (suc n) xs ≡ take n xs ++ x ∷ []
 take_next [] n x h = absurd (cc)
-take_next (y ∷ ys) zero x h = ap (λ z. z ∷ []) (same_some y x h)
+take_next (y ∷ ys) zero x h = ap (λ z. z ∷ []) (same_Some y x h)
 take_next (y ∷ ys) (suc n) x h = ap (λ zs. y ∷ zs) (take_next ys n x h)
 
 take_whole : (ns : List ℕ) → take (length ns) ns ≡ ns
@@ -49,10 +51,6 @@ take_lengths : (ns : List ℕ) (n : ℕ) → AreLengths ns → AreLengths (take 
 take_lengths ns zero good = tt
 take_lengths [] (suc n) good = tt
 take_lengths (m ∷ ns) (suc n) good = (good.0, take_lengths ns n good.1)
-
-limits_next : (seals : List Seal) (seal : Seal) → AllSealLimits seals → SealLimits seal → AllSealLimits (seals ++ seal ∷ [])
-limits_next [] seal all one = (one, tt)
-limits_next (x ∷ seals) seal all one = (all.0, limits_next seals seal all.1 one)
 
 -- ---- the seals of the first stretches
 module _ (H : List ℕ → List ℕ) where
@@ -76,7 +74,7 @@ module _ (H : List ℕ → List ℕ) where
   begins : (s : State) (ns : List ℕ) (n : ℕ) (seal : Seal) → item (seals_from H (Some s) ns) n ≡ Some seal → Begins s ns n seal
   unfolding after
   begins s [] n seal h = absurd (cc)
-  begins s (m ∷ ns) zero seal h = record { state = s; steps = m; reached = refl; is = same_some (seal_from H s m) seal h }
+  begins s (m ∷ ns) zero seal h = record { state = s; steps = m; reached = refl; is = same_Some (seal_from H s m) seal h }
   begins s (m ∷ ns) (suc n) seal h = go (after s m) refl h (λ v. begins v ns n seal)
     where
       go : (o : Option State) → after s m ≡ o → item (seals_from H o ns) n ≡ Some seal → ((v : State) → item (seals_from H (Some v) ns) n ≡ Some seal → Begins v ns n seal)
@@ -108,7 +106,7 @@ module _ (H : List ℕ → List ℕ) where
           seals =
               seals ∙ ap (λ before. before ++ seal ∷ []) (so_far.seals ∙ sym (take_seals (Some r) (lengths l r) n))
               ∙ sym (take_next (cut_seals H l r) n seal here) ∙ take_seals (Some r) (lengths l r) (suc n) ∙ ap (λ k. seals_from H (Some r) (take k (lengths l r))) next;
-          limits = subst AllSealLimits (sym seals) (limits_next (seals_so_far whole) seal so_far.limits limits);
+          limits = subst AllSealLimits (sym seals) (AllSealLimits-push (seals_so_far whole) seal so_far.limits limits);
           chained = chained;
         }
 
@@ -123,7 +121,7 @@ module _ (H : List ℕ → List ℕ) where
           let some : take n (lengths l r) ≢ [] = λ none. no_claim left (so_far.seals ∙ ap (seals_from H (Some r)) none) so_far.chained in
           let good : AreLengths (take n (lengths l r)) = take_lengths (lengths l r) n (segments_cover l r are ready).0 in
           let chain = stretches_chain H r (take n (lengths l r)) at.state ready some good at.reached in
-          let same : chain.claim ≡ left.claim = same_some chain.claim left.claim (sym chain.is_claim ∙ sym (ap (chain_of H) so_far.seals) ∙ so_far.chained) in (
+          let same : chain.claim ≡ left.claim = same_Some chain.claim left.claim (sym chain.is_claim ∙ sym (ap (chain_of H) so_far.seals) ∙ so_far.chained) in (
             so_far.chained,
             sym (ap (λ (c : SpanClaim). c.exit) same) ∙ chain.claims.exit_is,
             sym (ap (λ (c : SpanClaim). c.after) same) ∙ chain.claims.after ∙ sym (before_is at.state at.steps) ∙ ap (before_of H) at.is,
@@ -156,7 +154,7 @@ module _ (H : List ℕ → List ℕ) where
     pub proves : (proved : Chained) (outcome : Outcome) → SoFar l r n (Some proved) → IsOutcome r l.limit outcome → IsHalt outcome → IsProved H l r proved
     proves proved (HaltedAt code) so_far ends halt =
         let chain = segments_chain H l r code are ready ends in
-        let same : chain.claim ≡ proved.claim = same_some chain.claim proved.claim (sym chain.is_claim ∙ sym (ap (chain_of H) (all_seals (Some proved) so_far)) ∙ so_far.chained) in
+        let same : chain.claim ≡ proved.claim = same_Some chain.claim proved.claim (sym chain.is_claim ∙ sym (ap (chain_of H) (all_seals (Some proved) so_far)) ∙ so_far.chained) in
         record {
           few = omega (arith, all, so_far.few);
           seals = all_seals (Some proved) so_far;

@@ -1,6 +1,6 @@
 use Rattle.std.proofs.Common.{◌∙◌, arith}
 use Rattle.host_calls.proofs.Metering.{next_placed}
-use Rattle.host_calls.proofs.Rising.{ascending-place}
+use Rattle.page_core.proofs.Ascending.{ascending-place}
 use Rattle.host_calls.proofs.meter.put_all.Goals as goal
 
 pub loop-page-preserved : goal.loop-page-preserved

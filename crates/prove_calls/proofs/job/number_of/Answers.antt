@@ -1,7 +1,8 @@
 use Rattle.std.proofs.Common.{◌≡◌, sym, ap, ◌∙◌}
 use Rattle.std.specs.Prelude.{decimal}
 use Rattle.std.proofs.lemmas.Fmt.{parse-decimal}
-use Rattle.prove_calls.proofs.Limits.{ok_not_err, same_ok, not_other}
+use Rattle.check_core.proofs.Linked.{other_digests}
+use Rattle.prove_calls.proofs.Limits.{ok_not_err, same_ok}
 use Rattle.prove_calls.proofs.job.number_of.Goals as goal
 
 pub returns-in_default-clause-none : goal.returns-in_default-clause-none
@@ -11,4 +12,4 @@ returns-in_default-clause-none c = λ n fits is.
 pub returns-then-ne-clause-none : goal.returns-then-ne-clause-none
 returns-then-ne-clause-none c = λ n fits is.
     let same : n ≡ c.in-Ok.number = same_ok n c.in-Ok.number (sym (parse-decimal 64 n c.args.word.now c.parse.result fits fits is c.parse.ensures.value.0) ∙ c.in-Ok.is) in
-    not_other c.as_str.result.now c.args.word.now c.ne.result c.ne.ensures c.if-ne.true (c.as_str.ensures.value ∙ c.in_ok-digits.ensures.ok ∙ ap decimal (sym same) ∙ sym is)
+    other_digests c.as_str.result.now c.args.word.now c.ne.result c.ne.ensures c.if-ne.true (c.as_str.ensures.value ∙ c.in_ok-digits.ensures.ok ∙ ap decimal (sym same) ∙ sym is)

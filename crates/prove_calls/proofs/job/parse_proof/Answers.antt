@@ -2,7 +2,8 @@ use Rattle.std.proofs.Common.{◌≡◌, ◌≢◌, ℕ, List, All, [], ◌∷�
 use Rattle.std.specs.Prelude.{string_bytes, codes, decimal, Option, IfSome}
 use Rattle.executor.specs.Segments.{Limits}
 use Rattle.executor.specs.Laws.{AreLimits}
-use Rattle.prove_calls.proofs.Limits.{after_eight, eight_then, same_names, same_bytes, not_empty, is_empty}
+use Rattle.check_core.proofs.Linked.{same_digests}
+use Rattle.prove_calls.proofs.Limits.{after_eight, eight_then, same_names, not_empty, is_empty}
 use Rattle.prove_calls.proofs.job.parse_proof.Goals as goal
 use Rattle.prove_calls.proofs.job.parse_proof.Goals.{then-is_empty-via-then-is_empty, then-is_empty-via-else-is_empty+then-is_empty-2, then-is_empty-via-else-is_empty+else-is_empty-2+then-is_empty-3, then-is_empty-via-else-is_empty+else-is_empty-2+else-is_empty-3+then-any_empty}
 
@@ -35,9 +36,9 @@ returns-in-Some-clause-some c =
     let items =
     eight_then words c.command-item.result c.elf-item.result c.input-item.result c.receipt-item.result c.cycles-item.result c.pages-item.result c.limit-item.result c.workers-item.result c.in-len8-up.len_at_least
     c.command-item.is c.elf-item.is c.input-item.is c.receipt-item.is c.cycles-item.is c.pages-item.is c.limit-item.is c.workers-item.is in
-    let command : string_bytes c.command-item.result ≡ codes "prove" = sym c.as_str.ensures.value ∙ same_bytes c.as_str.result.now (codes "prove") c.ne.result c.ne.ensures c.if-ne.false in
+    let command : string_bytes c.command-item.result ≡ codes "prove" = sym c.as_str.ensures.value ∙ same_digests c.as_str.result.now (codes "prove") c.ne.result c.ne.ensures c.if-ne.false in
     let workers : string_bytes c.workers-item.result ≡ codes "0" =
-    sym c.as_str-else-ne.ensures.value ∙ same_bytes c.as_str-else-ne.result.now (codes "0") c.ne-else-ne.result c.ne-else-ne.ensures c.if-ne-2.false in
+    sym c.as_str-else-ne.ensures.value ∙ same_digests c.as_str-else-ne.result.now (codes "0") c.ne-else-ne.result c.ne-else-ne.ensures c.if-ne-2.false in
     let elf : string_bytes c.elf-item.result ≡ c.as_str-elf.result.now = sym c.as_str-elf.ensures.value in
     let input : string_bytes c.input-item.result ≡ c.as_str-input.result.now = sym c.as_str-input.ensures.value in
     let receipt : string_bytes c.receipt-item.result ≡ c.as_str-receipt.result.now = sym c.as_str-receipt.ensures.value in

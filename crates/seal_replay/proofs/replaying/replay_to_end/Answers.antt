@@ -1,5 +1,5 @@
 use Rattle.std.proofs.Common.{◌≡◌, ℕ, ◌<◌, ⊎_elim, inl, inr, sym, ap, ◌∙◌, subst, Some, length, List, [], get_or, drop, Bool, false}
-use Rattle.std.proofs.lemmas.List.{length-replicate}
+use Rattle.std.proofs.lemmas.List.{length-replicate, nil_from_length}
 use Rattle.std.proofs.lemmas.Result.{err_from_is_err_and}
 use Rattle.page_core.specs.Memories.{flat}
 use Rattle.part_tree.specs.Part.{Part, page_at, opened}
@@ -12,7 +12,7 @@ use Rattle.rv_step.specs.Tapes.{Tape, no_log}
 use Rattle.seal_replay.specs.Replay.{opened_by, memory_of, registers_in}
 use Rattle.seal_replay.proofs.Shown.{opens_same, memory_same, open_number}
 use Rattle.seal_replay.proofs.Marked.{none_marked}
-use Rattle.seal_replay.proofs.Ended.{step_stopped, words_left, idle_left, nothing_left, no_items}
+use Rattle.seal_replay.proofs.Ended.{step_stopped, words_left, idle_left, nothing_left}
 use Rattle.seal_replay.proofs.replaying.replay_to_end.Goals as goal
 
 pub run-requires-clause-opens : goal.run-requires-clause-opens
@@ -59,7 +59,7 @@ returns-then-left-ne0-clause-stop c =
 pub returns-in-Some-clause-stop : goal.returns-in-Some-clause-stop
 returns-in-Some-clause-stop c =
     let s : State = state_at c.run.new.core (flat (pages_in c.run.new.bus)) c.run.new.tape c.run.new.log in
-    let none : s.words ≡ [] = no_items s.words (ap length (sym c.rest-left.ensures) ∙ c.if-left-ne0.false) in
+    let none : s.words ≡ [] = nil_from_length s.words (ap length (sym c.rest-left.ensures) ∙ c.if-left-ne0.false) in
     let tree : part c.seal.inside.tree ≡ c.args.seal.now.tree = ap (λ (seal : Seal). seal.tree) c.seal.view_is in
     let numbers : c.as_slice-2.result.now ≡ opened_by c.args.seal.now = c.as_slice-2.ensures ∙ c.in_ok-numbers.ensures ∙ ap (opened 0) tree in
     inr (idle_left c.args.seal.now c.in_ok-exit.exit s c.run.new.marks c.in_ok-exit.ensures.ended c.in-Some.page none
@@ -68,7 +68,7 @@ returns-in-Some-clause-stop c =
 pub returns-clause-ended : goal.returns-clause-ended
 returns-clause-ended c =
     let s : State = state_at c.run.new.core (flat (pages_in c.run.new.bus)) c.run.new.tape c.run.new.log in
-    let none : s.words ≡ [] = no_items s.words (ap length (sym c.rest-left.ensures) ∙ c.if-left-ne0.false) in
+    let none : s.words ≡ [] = nil_from_length s.words (ap length (sym c.rest-left.ensures) ∙ c.if-left-ne0.false) in
     let tree : part c.seal.inside.tree ≡ c.args.seal.now.tree = ap (λ (seal : Seal). seal.tree) c.seal.view_is in
     let numbers : c.as_slice-2.result.now ≡ opened_by c.args.seal.now = c.as_slice-2.ensures ∙ c.in_ok-numbers.ensures ∙ ap (opened 0) tree in
     let same : (n : ℕ) → page_in c.in_ok-pages.pages n ≡ page_at 0 c.args.seal.now.tree n =

@@ -3,7 +3,8 @@ use Rattle.std.proofs.lemmas.Iterator.{YieldsList-from_slice}
 use Rattle.std.proofs.lemmas.Iterator.Search.{any_from_yields_List}
 use Rattle.page_core.specs.Memory.{top}
 use Rattle.elf_image.specs.Tests.{meets}
-use Rattle.elf_image.proofs.Tested.{range_passes, order_passes}
+use Rattle.elf_image.proofs.Tested.{range_passes}
+use Rattle.std.proofs.lemmas.Bool.{le-leb}
 use Rattle.elf_image.proofs.headers.LoadHeader.fault.Goals as goal
 
 pub returns : goal.returns
@@ -14,7 +15,7 @@ returns c =
     let any = any_from_yields_List (meets load) _ _ c.any.result c.any.ensures.ran (YieldsList-from_slice c.args.earlier.now cc) (λ x b q k. search (rules, tests)) in
     rw (
       range_passes load.file_size load.offset (length c.args.file.now) file,
-      order_passes load.file_size load.memory_size c.if-self.false,
+      le-leb load.file_size load.memory_size c.if-self.false,
       range_passes load.memory_size load.address top memory,
       ← any,
       c.if-any.false,

@@ -5,7 +5,8 @@ use Rattle.rv_step.specs.Runs.{start}
 use Rattle.rv_step.specs.declared.outcome.Outcome.TheVariants.{Halted as HaltedWith, Faulted as FaultedAt, OverLimit as Over}
 use Rattle.flat_machine.specs.Going.{Stands as IsRun, DoesOne, EndsSo}
 use Rattle.executor.specs.Cutting.{Cutting, IsCutting}
-use Rattle.executor.proofs.UnderWay.{none_held, none_told, has_outcome, few_steps, with_meter, before, stands_before, stands_moved, cutting_moved, stands_stepped, cutting_stepped, stands_ended, cutting_ended, whole_ended, whole_full, some_of, some_not_none, room_at}
+use Rattle.page_core.proofs.Options.{none_from}
+use Rattle.executor.proofs.UnderWay.{none_told, has_outcome, few_steps, with_meter, before, stands_before, stands_moved, cutting_moved, stands_stepped, cutting_stepped, stands_ended, cutting_ended, whole_ended, whole_full, some_of, some_not_none, room_at}
 use Rattle.executor.proofs.executor.Executor.advance.Goals as goal
 
 pub returns-then-is_some-clause-whole : goal.returns-then-is_some-clause-whole
@@ -16,7 +17,7 @@ returns-then-is_some-clause-whole g c _ image words stands =
 pub returns-then-not-fits-clause-whole : goal.returns-then-not-fits-clause-whole
 returns-then-not-fits-clause-whole g c _ image words stands =
     whole_full c.args.self.now (subst (λ (x : Cutting). IsCutting x) c.self.view_is c.self.invariant)
-    (ap (λ (x : Cutting). x.outcome) (sym c.self.view_is) ∙ none_held c.self.inside.outcome (sym c.is_some.ensures ∙ c.if-is_some.false))
+    (ap (λ (x : Cutting). x.outcome) (sym c.self.view_is) ∙ none_from c.self.inside.outcome (sym c.is_some.ensures ∙ c.if-is_some.false))
     (room_at _ _ c.self.view_is c.look-looked.result.foot c.look-looked.result.cost false c.look-looked.ensures.foot c.look-looked.ensures.cost (sym c.fits.ensures ∙ c.if-not-fits.true))
     image words stands.run stands.segment
 
@@ -24,14 +25,14 @@ pub invariant_of-self-in_err-step : goal.invariant_of-self-in_err-step
 invariant_of-self-in_err-step g c =
     let j : Cutting = record { going = c.self-2.inside.flat; limits = c.self-2.inside.limits; number = c.self-2.inside.number; beginning = c.self-2.inside.beginning; steps = c.self-2.inside.steps; meter = c.self-2.inside.meter.segment; outcome = c.self-2.inside.outcome } in
     let m : Metered = c.reserve.new.self.segment in
-    let b = before _ _ j _ m c.self.view_is c.self-2.view_is c.begin.ensures.same c.reserve.ensures.same c.look-looked.result.foot c.look-looked.result.cost c.in_ok-begin.ensures.begun c.self-2.invariant (none_held c.self.inside.outcome (sym c.is_some.ensures ∙ c.if-is_some.false)) c.look-looked.ensures.foot c.look-looked.ensures.cost (sym c.fits.ensures ∙ c.if-not-fits.false) in
+    let b = before _ _ j _ m c.self.view_is c.self-2.view_is c.begin.ensures.same c.reserve.ensures.same c.look-looked.result.foot c.look-looked.result.cost c.in_ok-begin.ensures.begun c.self-2.invariant (none_from c.self.inside.outcome (sym c.is_some.ensures ∙ c.if-is_some.false)) c.look-looked.ensures.foot c.look-looked.ensures.cost (sym c.fits.ensures ∙ c.if-not-fits.false) in
     cutting_moved (with_meter j m) c.step.new.self c.in_err-step.ensures.refused c.step.ensures.stands b.cutting
 
 pub returns-in_err-step-clause-stands : goal.returns-in_err-step-clause-stands
 returns-in_err-step-clause-stands g c image words stands =
     let j : Cutting = record { going = c.self-2.inside.flat; limits = c.self-2.inside.limits; number = c.self-2.inside.number; beginning = c.self-2.inside.beginning; steps = c.self-2.inside.steps; meter = c.self-2.inside.meter.segment; outcome = c.self-2.inside.outcome } in
     let m : Metered = c.reserve.new.self.segment in
-    let b = before _ _ j _ m c.self.view_is c.self-2.view_is c.begin.ensures.same c.reserve.ensures.same c.look-looked.result.foot c.look-looked.result.cost c.in_ok-begin.ensures.begun c.self-2.invariant (none_held c.self.inside.outcome (sym c.is_some.ensures ∙ c.if-is_some.false)) c.look-looked.ensures.foot c.look-looked.ensures.cost (sym c.fits.ensures ∙ c.if-not-fits.false) in
+    let b = before _ _ j _ m c.self.view_is c.self-2.view_is c.begin.ensures.same c.reserve.ensures.same c.look-looked.result.foot c.look-looked.result.cost c.in_ok-begin.ensures.begun c.self-2.invariant (none_from c.self.inside.outcome (sym c.is_some.ensures ∙ c.if-is_some.false)) c.look-looked.ensures.foot c.look-looked.ensures.cost (sym c.fits.ensures ∙ c.if-not-fits.false) in
     let here = stands_before _ _ j _ m c.self.view_is c.self-2.view_is c.begin.ensures.same c.reserve.ensures.same image words (c.begin.ensures.stands image words stands) in
     stands_moved (with_meter j m) c.step.new.self image words c.in_err-step.ensures.refused.steps (c.step.ensures.stands image words here.run) here
 
@@ -39,14 +40,14 @@ pub overflow_add-self : goal.overflow_add-self
 overflow_add-self g c =
     let j : Cutting = record { going = c.self-2.inside.flat; limits = c.self-2.inside.limits; number = c.self-2.inside.number; beginning = c.self-2.inside.beginning; steps = c.self-2.inside.steps; meter = c.self-2.inside.meter.segment; outcome = c.self-2.inside.outcome } in
     let m : Metered = c.reserve.new.self.segment in
-    let b = before _ _ j _ m c.self.view_is c.self-2.view_is c.begin.ensures.same c.reserve.ensures.same c.look-looked.result.foot c.look-looked.result.cost c.in_ok-begin.ensures.begun c.self-2.invariant (none_held c.self.inside.outcome (sym c.is_some.ensures ∙ c.if-is_some.false)) c.look-looked.ensures.foot c.look-looked.ensures.cost (sym c.fits.ensures ∙ c.if-not-fits.false) in
+    let b = before _ _ j _ m c.self.view_is c.self-2.view_is c.begin.ensures.same c.reserve.ensures.same c.look-looked.result.foot c.look-looked.result.cost c.in_ok-begin.ensures.begun c.self-2.invariant (none_from c.self.inside.outcome (sym c.is_some.ensures ∙ c.if-is_some.false)) c.look-looked.ensures.foot c.look-looked.ensures.cost (sym c.fits.ensures ∙ c.if-not-fits.false) in
     omega (arith, few_steps (with_meter j m) b.cutting b.untold)
 
 pub invariant_of-self-in-None : goal.invariant_of-self-in-None
 invariant_of-self-in-None g c =
     let j : Cutting = record { going = c.self-2.inside.flat; limits = c.self-2.inside.limits; number = c.self-2.inside.number; beginning = c.self-2.inside.beginning; steps = c.self-2.inside.steps; meter = c.self-2.inside.meter.segment; outcome = c.self-2.inside.outcome } in
     let m : Metered = c.reserve.new.self.segment in
-    let b = before _ _ j _ m c.self.view_is c.self-2.view_is c.begin.ensures.same c.reserve.ensures.same c.look-looked.result.foot c.look-looked.result.cost c.in_ok-begin.ensures.begun c.self-2.invariant (none_held c.self.inside.outcome (sym c.is_some.ensures ∙ c.if-is_some.false)) c.look-looked.ensures.foot c.look-looked.ensures.cost (sym c.fits.ensures ∙ c.if-not-fits.false) in
+    let b = before _ _ j _ m c.self.view_is c.self-2.view_is c.begin.ensures.same c.reserve.ensures.same c.look-looked.result.foot c.look-looked.result.cost c.in_ok-begin.ensures.begun c.self-2.invariant (none_from c.self.inside.outcome (sym c.is_some.ensures ∙ c.if-is_some.false)) c.look-looked.ensures.foot c.look-looked.ensures.cost (sym c.fits.ensures ∙ c.if-not-fits.false) in
     let went : (c.self-2.inside.flat.halted ≡ None) × (c.step.new.self.halted ≡ None) × DoesOne c.self-2.inside.flat c.step.new.self = rw c.in-None.is at c.in_ok-step.ensures.went in
     cutting_stepped (with_meter j m) c.step.new.self c.add_step.new.meter.segment c.self-2.inside.outcome b.untold b.on b.held went.2 (omega (arith, c.step.ensures.within, c.limit.ensures.value)) b.cutting.cycles b.cutting.pages
     c.look-looked.result.foot c.look-looked.result.cost b.foot_is b.cost_is b.room c.add_step.ensures c.step.ensures.stands (λ image words run. none_told _ _ _ _ b.untold) (λ _. went.1) b.cutting
@@ -55,14 +56,14 @@ pub overflow_add-self-in-Some-Halted : goal.overflow_add-self-in-Some-Halted
 overflow_add-self-in-Some-Halted g c =
     let j : Cutting = record { going = c.self-2.inside.flat; limits = c.self-2.inside.limits; number = c.self-2.inside.number; beginning = c.self-2.inside.beginning; steps = c.self-2.inside.steps; meter = c.self-2.inside.meter.segment; outcome = c.self-2.inside.outcome } in
     let m : Metered = c.reserve.new.self.segment in
-    let b = before _ _ j _ m c.self.view_is c.self-2.view_is c.begin.ensures.same c.reserve.ensures.same c.look-looked.result.foot c.look-looked.result.cost c.in_ok-begin.ensures.begun c.self-2.invariant (none_held c.self.inside.outcome (sym c.is_some.ensures ∙ c.if-is_some.false)) c.look-looked.ensures.foot c.look-looked.ensures.cost (sym c.fits.ensures ∙ c.if-not-fits.false) in
+    let b = before _ _ j _ m c.self.view_is c.self-2.view_is c.begin.ensures.same c.reserve.ensures.same c.look-looked.result.foot c.look-looked.result.cost c.in_ok-begin.ensures.begun c.self-2.invariant (none_from c.self.inside.outcome (sym c.is_some.ensures ∙ c.if-is_some.false)) c.look-looked.ensures.foot c.look-looked.ensures.cost (sym c.fits.ensures ∙ c.if-not-fits.false) in
     omega (arith, few_steps (with_meter j m) b.cutting b.untold)
 
 pub invariant_of-self-in-Some-Halted : goal.invariant_of-self-in-Some-Halted
 invariant_of-self-in-Some-Halted g c =
     let j : Cutting = record { going = c.self-2.inside.flat; limits = c.self-2.inside.limits; number = c.self-2.inside.number; beginning = c.self-2.inside.beginning; steps = c.self-2.inside.steps; meter = c.self-2.inside.meter.segment; outcome = c.self-2.inside.outcome } in
     let m : Metered = c.reserve.new.self.segment in
-    let b = before _ _ j _ m c.self.view_is c.self-2.view_is c.begin.ensures.same c.reserve.ensures.same c.look-looked.result.foot c.look-looked.result.cost c.in_ok-begin.ensures.begun c.self-2.invariant (none_held c.self.inside.outcome (sym c.is_some.ensures ∙ c.if-is_some.false)) c.look-looked.ensures.foot c.look-looked.ensures.cost (sym c.fits.ensures ∙ c.if-not-fits.false) in
+    let b = before _ _ j _ m c.self.view_is c.self-2.view_is c.begin.ensures.same c.reserve.ensures.same c.look-looked.result.foot c.look-looked.result.cost c.in_ok-begin.ensures.begun c.self-2.invariant (none_from c.self.inside.outcome (sym c.is_some.ensures ∙ c.if-is_some.false)) c.look-looked.ensures.foot c.look-looked.ensures.cost (sym c.fits.ensures ∙ c.if-not-fits.false) in
     let ended = rw (c.in-Some-Halted.is ∙ ap Some c.in-Some-Halted.field-0-is) at c.in_ok-step.ensures.ended in
     let last = (rw (c.in-Some-Halted.is ∙ ap Some c.in-Some-Halted.field-0-is) at c.in_ok-step.ensures.last) b.on in
     let told = λ (image : Image) (words : List ℕ) (run : IsRun c.self-2.inside.flat image words).
@@ -74,7 +75,7 @@ pub invariant_of-self-in-Some-Faulted : goal.invariant_of-self-in-Some-Faulted
 invariant_of-self-in-Some-Faulted g c =
     let j : Cutting = record { going = c.self-2.inside.flat; limits = c.self-2.inside.limits; number = c.self-2.inside.number; beginning = c.self-2.inside.beginning; steps = c.self-2.inside.steps; meter = c.self-2.inside.meter.segment; outcome = c.self-2.inside.outcome } in
     let m : Metered = c.reserve.new.self.segment in
-    let b = before _ _ j _ m c.self.view_is c.self-2.view_is c.begin.ensures.same c.reserve.ensures.same c.look-looked.result.foot c.look-looked.result.cost c.in_ok-begin.ensures.begun c.self-2.invariant (none_held c.self.inside.outcome (sym c.is_some.ensures ∙ c.if-is_some.false)) c.look-looked.ensures.foot c.look-looked.ensures.cost (sym c.fits.ensures ∙ c.if-not-fits.false) in
+    let b = before _ _ j _ m c.self.view_is c.self-2.view_is c.begin.ensures.same c.reserve.ensures.same c.look-looked.result.foot c.look-looked.result.cost c.in_ok-begin.ensures.begun c.self-2.invariant (none_from c.self.inside.outcome (sym c.is_some.ensures ∙ c.if-is_some.false)) c.look-looked.ensures.foot c.look-looked.ensures.cost (sym c.fits.ensures ∙ c.if-not-fits.false) in
     let ended = rw (c.in-Some-Faulted.is ∙ ap Some c.in-Some-Faulted.field-0-is) at c.in_ok-step.ensures.ended in
     let last = (rw (c.in-Some-Faulted.is ∙ ap Some c.in-Some-Faulted.field-0-is) at c.in_ok-step.ensures.last) b.on in
     let told = λ (image : Image) (words : List ℕ) (run : IsRun c.self-2.inside.flat image words).
@@ -85,7 +86,7 @@ pub invariant_of-self-in-Some-OverLimit : goal.invariant_of-self-in-Some-OverLim
 invariant_of-self-in-Some-OverLimit g c =
     let j : Cutting = record { going = c.self-2.inside.flat; limits = c.self-2.inside.limits; number = c.self-2.inside.number; beginning = c.self-2.inside.beginning; steps = c.self-2.inside.steps; meter = c.self-2.inside.meter.segment; outcome = c.self-2.inside.outcome } in
     let m : Metered = c.reserve.new.self.segment in
-    let b = before _ _ j _ m c.self.view_is c.self-2.view_is c.begin.ensures.same c.reserve.ensures.same c.look-looked.result.foot c.look-looked.result.cost c.in_ok-begin.ensures.begun c.self-2.invariant (none_held c.self.inside.outcome (sym c.is_some.ensures ∙ c.if-is_some.false)) c.look-looked.ensures.foot c.look-looked.ensures.cost (sym c.fits.ensures ∙ c.if-not-fits.false) in
+    let b = before _ _ j _ m c.self.view_is c.self-2.view_is c.begin.ensures.same c.reserve.ensures.same c.look-looked.result.foot c.look-looked.result.cost c.in_ok-begin.ensures.begun c.self-2.invariant (none_from c.self.inside.outcome (sym c.is_some.ensures ∙ c.if-is_some.false)) c.look-looked.ensures.foot c.look-looked.ensures.cost (sym c.fits.ensures ∙ c.if-not-fits.false) in
     let ended = rw (c.in-Some-OverLimit.is ∙ ap Some c.in-Some-OverLimit.field-0-is) at c.in_ok-step.ensures.ended in
     let last = (rw (c.in-Some-OverLimit.is ∙ ap Some c.in-Some-OverLimit.field-0-is) at c.in_ok-step.ensures.last) b.on in
     let told = λ (image : Image) (words : List ℕ) (run : IsRun c.self-2.inside.flat image words).
@@ -96,7 +97,7 @@ pub returns-in-None-clause-stands : goal.returns-in-None-clause-stands
 returns-in-None-clause-stands g c image words stands =
     let j : Cutting = record { going = c.self-2.inside.flat; limits = c.self-2.inside.limits; number = c.self-2.inside.number; beginning = c.self-2.inside.beginning; steps = c.self-2.inside.steps; meter = c.self-2.inside.meter.segment; outcome = c.self-2.inside.outcome } in
     let m : Metered = c.reserve.new.self.segment in
-    let b = before _ _ j _ m c.self.view_is c.self-2.view_is c.begin.ensures.same c.reserve.ensures.same c.look-looked.result.foot c.look-looked.result.cost c.in_ok-begin.ensures.begun c.self-2.invariant (none_held c.self.inside.outcome (sym c.is_some.ensures ∙ c.if-is_some.false)) c.look-looked.ensures.foot c.look-looked.ensures.cost (sym c.fits.ensures ∙ c.if-not-fits.false) in
+    let b = before _ _ j _ m c.self.view_is c.self-2.view_is c.begin.ensures.same c.reserve.ensures.same c.look-looked.result.foot c.look-looked.result.cost c.in_ok-begin.ensures.begun c.self-2.invariant (none_from c.self.inside.outcome (sym c.is_some.ensures ∙ c.if-is_some.false)) c.look-looked.ensures.foot c.look-looked.ensures.cost (sym c.fits.ensures ∙ c.if-not-fits.false) in
     let went : (c.self-2.inside.flat.halted ≡ None) × (c.step.new.self.halted ≡ None) × DoesOne c.self-2.inside.flat c.step.new.self = rw c.in-None.is at c.in_ok-step.ensures.went in
     let here = stands_before _ _ j _ m c.self.view_is c.self-2.view_is c.begin.ensures.same c.reserve.ensures.same image words (c.begin.ensures.stands image words stands) in
     stands_stepped (with_meter j m) c.step.new.self c.add_step.new.meter.segment c.self-2.inside.outcome b.untold b.on b.held went.2 (omega (arith, c.step.ensures.within, c.limit.ensures.value)) b.cutting.cycles b.cutting.pages
@@ -106,7 +107,7 @@ pub returns-in-Some-Halted-clause-stands : goal.returns-in-Some-Halted-clause-st
 returns-in-Some-Halted-clause-stands g c image words stands =
     let j : Cutting = record { going = c.self-2.inside.flat; limits = c.self-2.inside.limits; number = c.self-2.inside.number; beginning = c.self-2.inside.beginning; steps = c.self-2.inside.steps; meter = c.self-2.inside.meter.segment; outcome = c.self-2.inside.outcome } in
     let m : Metered = c.reserve.new.self.segment in
-    let b = before _ _ j _ m c.self.view_is c.self-2.view_is c.begin.ensures.same c.reserve.ensures.same c.look-looked.result.foot c.look-looked.result.cost c.in_ok-begin.ensures.begun c.self-2.invariant (none_held c.self.inside.outcome (sym c.is_some.ensures ∙ c.if-is_some.false)) c.look-looked.ensures.foot c.look-looked.ensures.cost (sym c.fits.ensures ∙ c.if-not-fits.false) in
+    let b = before _ _ j _ m c.self.view_is c.self-2.view_is c.begin.ensures.same c.reserve.ensures.same c.look-looked.result.foot c.look-looked.result.cost c.in_ok-begin.ensures.begun c.self-2.invariant (none_from c.self.inside.outcome (sym c.is_some.ensures ∙ c.if-is_some.false)) c.look-looked.ensures.foot c.look-looked.ensures.cost (sym c.fits.ensures ∙ c.if-not-fits.false) in
     let ended = rw (c.in-Some-Halted.is ∙ ap Some c.in-Some-Halted.field-0-is) at c.in_ok-step.ensures.ended in
     let last = (rw (c.in-Some-Halted.is ∙ ap Some c.in-Some-Halted.field-0-is) at c.in_ok-step.ensures.last) b.on in
     let told = λ (image : Image) (words : List ℕ) (run : IsRun c.self-2.inside.flat image words).
@@ -122,7 +123,7 @@ pub returns-in-Some-Faulted-clause-stands : goal.returns-in-Some-Faulted-clause-
 returns-in-Some-Faulted-clause-stands g c image words stands =
     let j : Cutting = record { going = c.self-2.inside.flat; limits = c.self-2.inside.limits; number = c.self-2.inside.number; beginning = c.self-2.inside.beginning; steps = c.self-2.inside.steps; meter = c.self-2.inside.meter.segment; outcome = c.self-2.inside.outcome } in
     let m : Metered = c.reserve.new.self.segment in
-    let b = before _ _ j _ m c.self.view_is c.self-2.view_is c.begin.ensures.same c.reserve.ensures.same c.look-looked.result.foot c.look-looked.result.cost c.in_ok-begin.ensures.begun c.self-2.invariant (none_held c.self.inside.outcome (sym c.is_some.ensures ∙ c.if-is_some.false)) c.look-looked.ensures.foot c.look-looked.ensures.cost (sym c.fits.ensures ∙ c.if-not-fits.false) in
+    let b = before _ _ j _ m c.self.view_is c.self-2.view_is c.begin.ensures.same c.reserve.ensures.same c.look-looked.result.foot c.look-looked.result.cost c.in_ok-begin.ensures.begun c.self-2.invariant (none_from c.self.inside.outcome (sym c.is_some.ensures ∙ c.if-is_some.false)) c.look-looked.ensures.foot c.look-looked.ensures.cost (sym c.fits.ensures ∙ c.if-not-fits.false) in
     let ended = rw (c.in-Some-Faulted.is ∙ ap Some c.in-Some-Faulted.field-0-is) at c.in_ok-step.ensures.ended in
     let last = (rw (c.in-Some-Faulted.is ∙ ap Some c.in-Some-Faulted.field-0-is) at c.in_ok-step.ensures.last) b.on in
     let told = λ (image : Image) (words : List ℕ) (run : IsRun c.self-2.inside.flat image words).
@@ -137,7 +138,7 @@ pub returns-in-Some-OverLimit-clause-stands : goal.returns-in-Some-OverLimit-cla
 returns-in-Some-OverLimit-clause-stands g c image words stands =
     let j : Cutting = record { going = c.self-2.inside.flat; limits = c.self-2.inside.limits; number = c.self-2.inside.number; beginning = c.self-2.inside.beginning; steps = c.self-2.inside.steps; meter = c.self-2.inside.meter.segment; outcome = c.self-2.inside.outcome } in
     let m : Metered = c.reserve.new.self.segment in
-    let b = before _ _ j _ m c.self.view_is c.self-2.view_is c.begin.ensures.same c.reserve.ensures.same c.look-looked.result.foot c.look-looked.result.cost c.in_ok-begin.ensures.begun c.self-2.invariant (none_held c.self.inside.outcome (sym c.is_some.ensures ∙ c.if-is_some.false)) c.look-looked.ensures.foot c.look-looked.ensures.cost (sym c.fits.ensures ∙ c.if-not-fits.false) in
+    let b = before _ _ j _ m c.self.view_is c.self-2.view_is c.begin.ensures.same c.reserve.ensures.same c.look-looked.result.foot c.look-looked.result.cost c.in_ok-begin.ensures.begun c.self-2.invariant (none_from c.self.inside.outcome (sym c.is_some.ensures ∙ c.if-is_some.false)) c.look-looked.ensures.foot c.look-looked.ensures.cost (sym c.fits.ensures ∙ c.if-not-fits.false) in
     let ended = rw (c.in-Some-OverLimit.is ∙ ap Some c.in-Some-OverLimit.field-0-is) at c.in_ok-step.ensures.ended in
     let last = (rw (c.in-Some-OverLimit.is ∙ ap Some c.in-Some-OverLimit.field-0-is) at c.in_ok-step.ensures.last) b.on in
     let told = λ (image : Image) (words : List ℕ) (run : IsRun c.self-2.inside.flat image words).

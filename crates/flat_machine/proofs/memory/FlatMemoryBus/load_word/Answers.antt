@@ -1,6 +1,5 @@
-use Rattle.page_core.proofs.Shown.{word_shown}
+use Rattle.page_core.proofs.Shown.{word_shown, bytes_small}
 use Rattle.flat_machine.specs.Layers.{layered_pages}
-use Rattle.flat_machine.proofs.Layered.{bytes_small}
 use Rattle.flat_machine.proofs.memory.FlatMemoryBus.load_word.Goals as goal
 
 pub returns-clause-value : goal.returns-clause-value

@@ -1,11 +1,9 @@
 use Rattle.std.proofs.Common.{◌≡◌, ◌≢◌, ◌∙◌, ◌+◌, true, false, Some, get_or, slice_get, sym, ap}
 use Rattle.std.specs.Prelude.{insert}
+use Rattle.std.proofs.lemmas.Bool.{false≢true}
 use Rattle.host_calls.specs.Foots.{below}
 use Rattle.host_calls.proofs.Placed.{behind, added, not_added}
 use Rattle.host_calls.proofs.foot.Foot.add.Goals as goal
-
-not_both : false ≡ true → ⊥
-not_both e = cc
 
 pub returns-then-not-stands_at : goal.returns-then-not-stands_at
 returns-then-not-stands_at c =
@@ -16,7 +14,7 @@ returns-then-not-stands_at c =
     let code : get_or foot 1 0 ≢ page = λ e. c.if-pages-page.false (ap (λ pages. get_or pages 1 0) whole ∙ e) in
     let is : at ≡ below page (behind foot) = c.count_below-at.ensures.value ∙ ap (λ pages. below page (behind pages)) whole in
     let absent : slice_get (behind foot) at ≢ Some page =
-    λ e. not_both (sym c.if-not-stands_at.true ∙ c.stands_at.ensures.1 (ap (λ pages. slice_get (behind pages) at) whole ∙ e)) in
+    λ e. false≢true (sym c.if-not-stands_at.true ∙ c.stands_at.ensures.1 (ap (λ pages. slice_get (behind pages) at) whole ∙ e)) in
     c.insert.ensures.items ∙ ap (λ items. insert items (2 + at) page) c.self.view_is ∙ added page foot at c.requires.code code is absent
 
 pub returns-else-not-stands_at : goal.returns-else-not-stands_at

@@ -1,7 +1,7 @@
 use Rattle.std.proofs.Common.{sym, subst, IsTrue, arith}
 use Rattle.std.proofs.lemmas.Bool.Decides.{nat_tests}
 use Rattle.host_calls.specs.Meters.{Meter, has_room}
-use Rattle.host_calls.proofs.Rising.{ascending-ascending}
+use Rattle.page_core.proofs.Ascending.{ascending-ascending}
 use Rattle.host_calls.proofs.meter.Meter.add.Goals as goal
 
 pub invariant_of-self-2 : goal.invariant_of-self-2

@@ -1,6 +1,6 @@
 use Rattle.std.proofs.Common.{arith}
 use Rattle.std.proofs.lemmas.Bool.Decides.{nat_tests}
-use Rattle.host_calls.proofs.Rising.{ascending-none}
+use Rattle.page_core.proofs.Ascending.{ascending-none}
 use Rattle.host_calls.proofs.meter.Meter.clear.Goals as goal
 
 pub invariant_of-self : goal.invariant_of-self

@@ -1,5 +1,5 @@
 use Rattle.host_calls.proofs.Metering.{unused_within}
-use Rattle.host_calls.proofs.Rising.{ascending-none}
+use Rattle.page_core.proofs.Ascending.{ascending-none}
 use Rattle.host_calls.proofs.meter.Meter.new.Goals as goal
 
 pub invariant_of-result : goal.invariant_of-result
