@@ -17,3 +17,4 @@ pub mod Stopping
 pub mod Steps
 pub mod Claims
 pub mod Linked
+pub mod Public

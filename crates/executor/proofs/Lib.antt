@@ -8,3 +8,4 @@ pub mod Limited
 pub mod UnderWay
 pub mod Sealed
 pub mod Onward
+pub mod Public

@@ -3,3 +3,4 @@ pub mod Layered
 pub mod RunFeet
 pub mod RunPaid
 pub mod RunSteps
+pub mod Public

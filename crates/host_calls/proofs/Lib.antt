@@ -1,3 +1,4 @@
 pub mod Metering
 pub mod Placed
 pub mod Rising
+pub mod Public

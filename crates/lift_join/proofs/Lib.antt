@@ -1,3 +1,4 @@
 pub mod Inversion
 pub mod Joining
 pub mod Chained
+pub mod Public

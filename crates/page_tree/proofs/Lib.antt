@@ -5,3 +5,4 @@ pub mod Sides
 pub mod Parts
 pub mod Counted
 pub mod Heights
+pub mod Public

@@ -8,3 +8,4 @@ pub mod Splits
 pub mod Shown
 pub mod Counts
 pub mod Formed
+pub mod Public

@@ -4,3 +4,4 @@ pub mod Seals
 pub mod Entries
 pub mod Wholes
 pub mod Written
+pub mod Public

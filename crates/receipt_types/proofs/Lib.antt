@@ -1,3 +1,4 @@
 pub mod Form
 pub mod Rules
 pub mod Limits
+pub mod Public

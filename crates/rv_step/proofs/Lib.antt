@@ -11,3 +11,4 @@ pub mod Done
 pub mod Opened
 pub mod Looks
 pub mod Steps
+pub mod Public

@@ -8,3 +8,4 @@ pub mod Gone
 pub mod Ended
 pub mod Written
 pub mod Puts
+pub mod Public

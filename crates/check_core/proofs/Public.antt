@@ -1,0 +1,11 @@
+-- The lemmas that crates above may cite stand in these files.
+-- the first state of an accepted entry
+pub use Rattle.check_core.proofs.Firsts
+-- the memory with the registers, where the run of an image begins whose memory is zero from the register page on
+pub use Rattle.check_core.proofs.Images
+-- a bundle is accepted exactly where nothing stops it
+pub use Rattle.check_core.proofs.Unstopped
+-- the claims and the reports of a bundle's entries, one after the other
+pub use Rattle.check_core.proofs.Claims
+-- the links of a bundle's entries, one after the other
+pub use Rattle.check_core.proofs.Linked

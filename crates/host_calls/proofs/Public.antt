@@ -1,0 +1,3 @@
+-- The lemmas that crates above may cite stand in these files.
+-- where a page stands among pages that ascend
+pub use Rattle.host_calls.proofs.Placed
