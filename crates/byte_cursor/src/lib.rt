@@ -5,8 +5,6 @@
 mod cursor;
 mod item_list;
 mod out;
-#[cfg(test)]
-mod tests;
 
 pub use cursor::Cursor;
 pub use item_list::{ByteList, ItemList, WordList};

@@ -4,8 +4,6 @@
 mod claim;
 mod digests;
 mod state;
-#[cfg(test)]
-mod tests;
 
 pub use claim::{Exit, SpanClaim};
 pub use digests::{claim_digest, conditional_digest, ok_claim_digest, state_digest};

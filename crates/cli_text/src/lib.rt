@@ -10,8 +10,6 @@ mod printed;
 mod refusals;
 mod reports;
 mod status;
-#[cfg(test)]
-mod tests;
 
 pub use bad_elf::elf_text;
 pub use faults::fault_text;

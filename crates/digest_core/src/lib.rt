@@ -5,8 +5,6 @@ mod digest;
 mod digester;
 mod sha;
 mod tags;
-#[cfg(test)]
-mod tests;
 mod weak;
 
 pub use digest::Digest;

@@ -7,8 +7,6 @@ mod image;
 mod loader;
 mod loads;
 mod stop;
-#[cfg(test)]
-mod tests;
 
 pub use image::Image;
 pub use loader::{image_id, load};

@@ -5,8 +5,6 @@ mod cut;
 mod executor;
 mod laws;
 mod limits;
-#[cfg(test)]
-mod tests;
 
 pub use cut::Cut;
 pub use executor::{Executor, Next};

@@ -3,7 +3,5 @@
 
 mod flat;
 mod memory;
-#[cfg(test)]
-mod tests;
 
 pub use flat::Flat;

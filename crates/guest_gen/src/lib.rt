@@ -3,8 +3,6 @@
 
 mod assembling;
 mod line;
-#[cfg(test)]
-mod tests;
 
 pub use assembling::assemble;
 pub use line::GuestLine;

@@ -6,8 +6,6 @@ mod call;
 mod foot;
 mod meter;
 mod reading;
-#[cfg(test)]
-mod tests;
 
 pub use call::{AssumeCall, Call, CallList};
 pub use foot::Foot;

@@ -10,8 +10,6 @@ mod reading;
 mod real;
 mod slot;
 mod stop;
-#[cfg(test)]
-mod tests;
 mod traits;
 
 pub use mem_desk::MemDesk;

@@ -5,8 +5,6 @@ ghost use Rattle.page_core.specs.Laws.{PagesHoldBytes, BytesHoldPages, PutReadsB
 
 mod page;
 mod page_map;
-#[cfg(test)]
-mod tests;
 
 pub use page::Page;
 pub use page_map::PageMap;

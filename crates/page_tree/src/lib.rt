@@ -4,8 +4,6 @@
 mod build;
 mod nodes;
 mod open;
-#[cfg(test)]
-mod tests;
 mod tree;
 mod zeros;
 

@@ -3,8 +3,6 @@
 
 mod canonical;
 mod laws;
-#[cfg(test)]
-mod tests;
 mod tree;
 
 pub use laws::{part_laws, put_keeps_agreement, put_laws, split_laws};

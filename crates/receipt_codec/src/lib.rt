@@ -6,8 +6,6 @@ mod bundle;
 mod laws;
 mod seal;
 mod stop;
-#[cfg(test)]
-mod tests;
 mod tree;
 mod writer;
 

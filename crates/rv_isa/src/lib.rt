@@ -11,8 +11,6 @@ mod fault;
 mod fields;
 mod instr;
 mod regs;
-#[cfg(test)]
-mod tests;
 
 pub use arith::{alu, taken};
 pub use decoder::decode;

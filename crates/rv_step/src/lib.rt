@@ -6,10 +6,6 @@ mod act;
 mod acting;
 mod bus;
 mod doing;
-#[cfg(test)]
-mod fault_tests;
-#[cfg(test)]
-mod foot_tests;
 mod laws;
 mod looking;
 mod open_pages;
@@ -18,10 +14,6 @@ mod place;
 mod run_log;
 mod stepping;
 mod tape;
-#[cfg(test)]
-mod test_machine;
-#[cfg(test)]
-mod tests;
 
 pub use act::Act;
 pub use bus::Bus;

@@ -4,8 +4,6 @@
 mod alone;
 mod laws;
 mod stop;
-#[cfg(test)]
-mod tests;
 
 pub use alone::prove_alone;
 pub use laws::segments_chain;

@@ -1,38 +1,44 @@
+ghost use Rattle.std.specs.Prelude.{IsTrue};
+ghost use Rattle.guest_gen.specs.Assembly.{AreValid};
+
 use crate::stop::RowStop;
-use byte_cursor::Out;
+use byte_cursor::ByteList;
+use guest_gen::{GuestLine, assemble};
+use rv_isa::{Instr, decode};
+use std::alloc::Global;
 
-// The fields of the file header and of its one load header, but for the code's size.
-const HEADERS: [u32; 17] = [
-    0x464C_457F,
-    0x0001_0101,
-    0,
-    0,
-    0x00F3_0002,
-    1,
-    0x1000,
-    52,
-    0,
-    0,
-    0x0020_0034,
-    1,
-    0,
-    1,
-    84,
-    0x1000,
-    0x1000,
-];
-
-/// Writes the ELF file of a guest whose code stands at 0x1000 and begins there.
-pub(crate) fn elf_of(out: &mut Out, code: &[u8]) -> Result<(), RowStop> {
-    let Ok(size) = u32::try_from(code.len()) else {
+/// The ELF file of a guest whose code stands at 0x1000 and begins there: whole words, 1 to 65,536 of them.
+pub(crate) fn elf_of(alloc: Global, code: &[u8]) -> Result<ByteList, RowStop> {
+    let mut lines = Vec::new(alloc);
+    for four in code.chunks(4) {
+        match four {
+            [first, second, third, fourth] => {
+                lines.push(line_of(u32::from_le_bytes([*first, *second, *third, *fourth])))?;
+            }
+            _ => return Err(RowStop::NoRow),
+        }
+    }
+    let lines = lines.as_slice();
+    if lines.is_empty() || lines.len() > 65_536 || !are_valid(lines) {
         return Err(RowStop::NoRow);
-    };
-    for word in HEADERS {
-        out.put_u32(word)?;
     }
-    for word in [size, size, 7, 4] {
-        out.put_u32(word)?;
+    Ok(assemble(alloc, lines)?)
+}
+
+// The line of a word: its instruction, where there is one that is encoded as this word again.
+fn line_of(word: u32) -> GuestLine {
+    match decode(word) {
+        None | Some(Instr::Fence) => GuestLine::Word(word),
+        Some(instr) => GuestLine::Instr(instr),
     }
-    out.put_all(code)?;
-    Ok(())
+}
+
+// Whether each line is valid.
+fn are_valid(lines: &[GuestLine]) -> bool
+    ensures { IsTrue result → AreValid lines.now }
+{
+    match lines.split_first() {
+        None => true,
+        Some((first, rest)) => first.is_valid() && are_valid(rest),
+    }
 }

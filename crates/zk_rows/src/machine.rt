@@ -1,11 +1,12 @@
 //! Steps of a machine that a row describes.
 
+use crate::calls::set_register;
+use crate::pages::page_of;
 use crate::running::say;
 use crate::shelf::Shelf;
 use crate::stop::RowStop;
 use crate::words::{decimal, hex, hexadecimal};
 use byte_cursor::WordList;
-use page_core::Page;
 use rv_isa::Regs;
 use rv_step::{Core, Event, OpenPages, RunLog, StepStop, WordTape, look, step, step_within};
 use std::alloc::{AllocError, Global};
@@ -51,32 +52,23 @@ impl Machine {
             self.tape = WordTape::new(words_in(alloc, bytes)?);
             return Ok(());
         }
-        match key.strip_prefix('x') {
-            Some(number) => {
-                let number = decimal(number)?;
-                if number >= 32 {
-                    return Err(RowStop::NoRow);
-                }
-                self.core.regs.set(number as u8, hexadecimal(value)?);
-                Ok(())
-            }
-            None => self.open(decimal(key)?, shelf.bytes(value).ok_or(RowStop::NoRow)?),
+        if key.starts_with('x') {
+            return set_register(&mut self.core.regs, key, value);
         }
+        self.open(decimal(key)?, shelf.bytes(value).ok_or(RowStop::NoRow)?)
     }
 
     // Opens a page that begins with these bytes.
     fn open(&mut self, number: u32, bytes: &[u8]) -> Result<(), RowStop> {
-        if number >= 262_144 || bytes.len() > 1024 {
+        if number >= 262_144 {
             return Err(RowStop::NoRow);
         }
-        let mut page = [0; 1024];
-        page[..bytes.len()].copy_from_slice(bytes);
-        Ok(self.pages.open(number, &Page::of(&page))?)
+        Ok(self.pages.open(number, &page_of(bytes)?)?)
     }
 }
 
-// The words that bytes spell, little-endian.
-fn words_in(alloc: Global, bytes: &[u8]) -> Result<WordList, AllocError> {
+/// The words that bytes spell, little-endian.
+pub(crate) fn words_in(alloc: Global, bytes: &[u8]) -> Result<WordList, AllocError> {
     let mut words = WordList::new(alloc);
     for four in bytes.chunks(4) {
         if let [first, second, third, fourth] = four {

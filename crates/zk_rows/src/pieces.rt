@@ -44,7 +44,7 @@ fn put_made<R: Files + AllocGlobal>(
             }
         }
         "sha" => out.put_all(hash::<ShaDigester>(named(shelf, text)?).bytes().as_slice())?,
-        "elf" => elf_of(out, named(shelf, text)?)?,
+        "elf" => out.put_all(elf_of(rt.alloc(), named(shelf, text)?)?.as_slice())?,
         "tree" => put_tree::<ShaDigester>(rt.alloc(), shelf, out, text)?,
         "weaktree" => put_tree::<WeakDigester>(rt.alloc(), shelf, out, text)?,
         _ => return Err(RowStop::NoRow),

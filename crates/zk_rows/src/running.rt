@@ -66,11 +66,7 @@ fn run_once<R: Threads + Wait + Sync + Print + AllocGlobal>(
     fails: (u32, u32),
 ) -> Result<(), RowStop> {
     let alloc = rt.alloc();
-    let files = files_of(alloc, shelf, words)?;
-    if !are_distinct(files.as_slice()) {
-        return Err(RowStop::NoRow);
-    }
-    let mut desk = MemDesk::new(alloc, files, listed(alloc, fails.0)?)?;
+    let mut desk = desk_of(alloc, shelf, words, fails.0)?;
     let mut sink = MemSink::new(alloc, 10_000, listed(alloc, fails.1)?)?;
     let status = answer(rt, top, words, &mut desk, &mut sink)?;
     let Ok(text) = str::from_utf8(sink.taken()) else {
@@ -83,6 +79,20 @@ fn run_once<R: Threads + Wait + Sync + Print + AllocGlobal>(
         format!(in alloc; "> {title}\n{text}status {number}")?.as_str(),
     )?;
     keep_written(rt, shelf, &desk, words)
+}
+
+/// The desk that holds the files that these words name, of which the call of this number fails, 0 being none.
+pub(crate) fn desk_of(
+    alloc: Global,
+    shelf: &Shelf,
+    words: &[String],
+    fail: u32,
+) -> Result<MemDesk, RowStop> {
+    let files = files_of(alloc, shelf, words)?;
+    if !are_distinct(files.as_slice()) {
+        return Err(RowStop::NoRow);
+    }
+    Ok(MemDesk::new(alloc, files, listed(alloc, fail)?)?)
 }
 
 // What the call answers.
@@ -204,8 +214,8 @@ fn copied(alloc: Global, bytes: &[u8]) -> Result<ByteList, AllocError> {
     Ok(out.finish())
 }
 
-// This number alone.
-fn listed(alloc: Global, number: u32) -> Result<WordList, AllocError> {
+/// This number alone.
+pub(crate) fn listed(alloc: Global, number: u32) -> Result<WordList, AllocError> {
     let mut numbers = WordList::new(alloc);
     numbers.push(number)?;
     Ok(numbers)
