@@ -13,7 +13,6 @@ use Rattle.part_tree.specs.Tree.{root, node_string, tree_strings}
 use Rattle.part_tree.specs.Part.{Part, pruned, branch, leaf, IsPart, part_strings, put}
 use Rattle.part_tree.proofs.Made.{bytes_of_root, tree_bytes, part_bytes}
 use Rattle.part_tree.proofs.Strings.{Contains-one}
-use Rattle.page_core.specs.Memory.{top}
 use Rattle.host_calls.specs.declared.call.AssumeCall.{AssumeCall}
 use Rattle.rv_step.specs.Machine.{State, full}
 use Rattle.claim_types.specs.declared.claim.Exit.{Exit}
@@ -31,8 +30,8 @@ use Rattle.receipt_types.specs.Bundles.{Entry, AreEntries, AreSeals}
 use Rattle.check_core.specs.Hashed.{end_strings, seal_strings, ok_strings, claim_strings, entry_strings, tag_names, strings_of}
 use Rattle.check_core.specs.Laws.{HashedAreBytes}
 use Rattle.lift_join.proofs.Inversion.{has_claim, joins}
-use Rattle.rv_step.specs.Acts.{AreCalls, IsMade}
-use Rattle.rv_step.proofs.Made.{bytes_are, put_small}
+use Rattle.rv_step.specs.Acts.{AreCalls}
+use Rattle.rv_step.proofs.Made.{bytes_are}
 use Rattle.check_core.proofs.Made.{end_made, chain_made}
 
 -- ---- lists of strings

@@ -1,5 +1,5 @@
 -- A step with the words that another reads and the pages that it touches does what the other does.
-use Rattle.std.proofs.Common.{◌≡◌, ⊎_elim, ℕ, zero, suc, ◌/◌, ◌%◌, ◌<◌, ◌≤◌, Bool, true, false, not, cond, leb, ltb, eqb, List, [], ◌∷◌, ◌++◌, length, take, Option, Some, None, IsTrue, refl, sym, ap, ap₂, ◌∙◌, subst, arith, append_assoc}
+use Rattle.std.proofs.Common.{◌≡◌, ⊎_elim, ℕ, zero, suc, ◌/◌, ◌%◌, ◌<◌, ◌≤◌, true, false, leb, ltb, List, ◌++◌, length, take, Option, Some, IsTrue, refl, sym, ap, ap₂, ◌∙◌, subst, arith, append_assoc}
 use Rattle.std.specs.Int.{w32, from_le_bytes}
 use Rattle.std.proofs.lemmas.Bool.Decides.{nat_tests, leb_tells}
 use Rattle.std.proofs.lemmas.List.{take-append-drop}
@@ -10,7 +10,6 @@ use Rattle.host_calls.specs.declared.call.Call.TheVariants.{Halt, Read, Commit, 
 use Rattle.rv_step.specs.declared.act.Act.{Act}
 use Rattle.rv_step.specs.declared.act.Act.TheVariants.{Sets, Loads, Stores, Does, Faults}
 use Rattle.page_core.specs.Memory.{top, bytes, Within}
-
 use Rattle.std.specs.Prelude.{Contains}
 use Rattle.rv_step.proofs.Steps.{all_open}
 use Rattle.host_calls.specs.Calls.{takes}

@@ -1,16 +1,12 @@
 -- The seals of an image's run keep the limits of a receipt. H is the digest function.
-use Rattle.std.proofs.Common.{◌≡◌, ⊎_elim, ℕ, zero, suc, ◌+◌, ◌-◌, ◌*◌, ◌^◌, ◌<◌, ◌≤◌, true, List, [], ◌∷◌, ◌++◌, length, drop, Option, Some, None, IsTrue, refl, sym, ◌∙◌, subst, arith, length-append, length-take}
-use Rattle.std.specs.Int.{w32, to_le_bytes}
-use Rattle.std.specs.List.{flat_map}
+use Rattle.std.proofs.Common.{◌≡◌, ⊎_elim, ℕ, zero, suc, ◌+◌, ◌-◌, ◌^◌, ◌<◌, ◌≤◌, true, List, [], ◌∷◌, ◌++◌, length, Option, Some, None, refl, sym, subst, arith, length-append, length-take}
 use Rattle.std.specs.Prelude.{All, Contains}
 use Rattle.std.proofs.lemmas.Bool.Decides.{eqb_tells}
 use Rattle.std.proofs.lemmas.List.Elements.{All-nil, All-cons, All-tail, All-append, All-take, Contains-append_cases}
 use Rattle.digest_core.specs.Digests.{IsDigest}
 use Rattle.page_core.specs.Images.{Image, IsImage}
-use Rattle.page_core.specs.Memory.{top, ascending}
+use Rattle.page_core.specs.Memory.{ascending}
 use Rattle.page_core.specs.Memories.{page_of}
-use Rattle.page_core.specs.Pages.{ArePages}
-use Rattle.page_core.proofs.Bytes.{length-bytes, words-small}
 use Rattle.page_core.proofs.Listed.{Contains-none, Contains-head, Contains-tail}
 use Rattle.page_core.proofs.Ascending.{Contains-from_ascending}
 use Rattle.host_calls.specs.declared.call.Call.TheVariants.{Halt, Read, Commit, Assume}
@@ -24,7 +20,7 @@ use Rattle.rv_step.specs.Machine.{State, act, full, cost_of_act, step_cost}
 use Rattle.rv_step.specs.Runs.{start, after, at_some, spent, touched, pages_at}
 use Rattle.rv_step.proofs.Feet.{foot_has_registers}
 use Rattle.rv_step.proofs.Kept.{step_keeps}
-use Rattle.rv_step.proofs.Made.{bytes_are, put_small, full_pages}
+use Rattle.rv_step.proofs.Made.{full_pages}
 use Rattle.rv_step.proofs.Runs.{run_keeps, spent_next}
 use Rattle.flat_machine.proofs.RunFeet.{some_cost}
 use Rattle.receipt_types.specs.Limits.{SealLimits, AllSealLimits}

@@ -1,12 +1,10 @@
 -- A whole memory as a map of pages, with the registers written into it.
-use Rattle.std.proofs.Common.{◌≡◌, ℕ, zero, suc, ◌+◌, ◌-◌, ◌*◌, ◌/◌, ◌%◌, ◌<◌, ◌≤◌, List, [], ◌∷◌, get_or, length, take, drop, Option, Some, None, refl, sym, ap, ap₂, ◌∙◌, arith, ⊎_elim, true, false, leb}
+use Rattle.std.proofs.Common.{◌≡◌, ℕ, ◌+◌, ◌-◌, ◌*◌, ◌/◌, ◌%◌, ◌<◌, ◌≤◌, List, [], ◌∷◌, get_or, length, Option, None, refl, sym, ap, ap₂, ◌∙◌, arith, ⊎_elim, true, leb}
 use Rattle.std.specs.Int.{w32, to_le_bytes}
-use Rattle.std.specs.List.{flat_map}
-use Rattle.std.specs.Prelude.{replicate, unwrap_or, is_some, option_map}
+use Rattle.std.specs.Prelude.{unwrap_or}
 use Rattle.std.specs.Option.{option_or}
 use Rattle.std.proofs.lemmas.Option.{none-some}
 use Rattle.std.proofs.lemmas.Bool.Decides.{leb_tells, nat_tests}
-use Rattle.std.proofs.Math.Seq.{take-length}
 use Rattle.page_core.specs.Memory.{top, put}
 use Rattle.page_core.specs.Pages.{zero_page}
 use Rattle.page_core.proofs.Zeros.{zero_byte}

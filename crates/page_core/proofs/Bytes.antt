@@ -1,5 +1,5 @@
 -- Reading and writing ranges of bytes, by pages.
-use Rattle.std.proofs.Common.{◌≡◌, ℕ, zero, suc, ◌+◌, ◌-◌, ◌*◌, ◌/◌, ◌%◌, ◌<◌, ◌≤◌, true, cond, ◌&&◌, leb, ltb, List, [], ◌∷◌, length, get_or, refl, sym, ap, ap₂, ◌∙◌, arith, IsTrue, ◌⊎◌, ⊎_elim}
+use Rattle.std.proofs.Common.{◌≡◌, ℕ, zero, suc, ◌+◌, ◌-◌, ◌*◌, ◌/◌, ◌%◌, ◌<◌, ◌≤◌, true, cond, ◌&&◌, leb, ltb, List, [], ◌∷◌, length, get_or, refl, sym, ap, ap₂, ◌∙◌, arith, ◌⊎◌, ⊎_elim}
 use Rattle.std.specs.Prelude.{All, Contains}
 use Rattle.std.specs.Int.{Width, w32, byte_len, byte_at, bytes_low_first, to_le_bytes}
 use Rattle.std.specs.List.{flat_map}

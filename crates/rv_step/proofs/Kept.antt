@@ -1,5 +1,5 @@
 -- What a step leaves, by cases on its act.
-use Rattle.std.proofs.Common.{◌≡◌, ℕ, zero, suc, ◌+◌, ◌-◌, ◌*◌, ◌/◌, ◌%◌, ◌^◌, ◌<◌, ◌≤◌, Bool, true, false, List, [], ◌∷◌, ◌++◌, length, get_or, take, set, refl, ◌∙◌, subst, arith, IsTrue, IsFalse, inl, inr, ◌⊎◌, ⊎_elim, sym, length-take}
+use Rattle.std.proofs.Common.{◌≡◌, ℕ, zero, suc, ◌+◌, ◌-◌, ◌*◌, ◌/◌, ◌%◌, ◌^◌, ◌<◌, ◌≤◌, List, [], ◌∷◌, ◌++◌, length, get_or, take, set, refl, ◌∙◌, subst, arith, inl, inr, ◌⊎◌, ⊎_elim, sym, length-take}
 use Rattle.rv_step.proofs.Feet.{data_within}
 use Rattle.std.specs.Int.{w32, byte_len, to_le_bytes}
 use Rattle.std.specs.List.{flat_map}
@@ -18,9 +18,7 @@ use Rattle.rv_isa.specs.Registers.{with_register, AreRegisters}
 use Rattle.rv_step.specs.Laws.{IsReady}
 use Rattle.rv_step.specs.Acts.{IsSound, IsMade, Keeps, StepKeeps, StepHaltsWithWord}
 use Rattle.page_core.proofs.Bytes.{put-outside, in_pages_of, length-words, length-to_le_bytes, to_le_bytes-small, words-small}
-
 use Rattle.rv_step.proofs.Full.{length-with_register}
-
 use Rattle.rv_step.proofs.Acts.{acts_are_sound}
 use Rattle.rv_step.proofs.Frame.{act_out}
 use Rattle.rv_step.proofs.Made.{AreCalls-append, bytes_are, digest_read, put_small}

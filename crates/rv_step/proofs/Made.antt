@@ -1,5 +1,5 @@
 -- Bytes that are read and written, and calls that name digests.
-use Rattle.std.proofs.Common.{ℕ, zero, suc, ◌+◌, ◌-◌, ◌<◌, ◌&&◌, leb, ltb, List, [], ◌∷◌, ◌++◌, length, get_or, ◌≡◌, ◌/◌, drop, ◌*◌, refl, ap, arith}
+use Rattle.std.proofs.Common.{ℕ, zero, suc, ◌+◌, ◌-◌, ◌<◌, ◌&&◌, leb, ltb, List, [], ◌∷◌, ◌++◌, length, get_or, drop, ◌*◌}
 use Rattle.std.proofs.lemmas.Bool.{cond_both}
 use Rattle.std.proofs.lemmas.List.Elements.{All-nil, All-cons}
 use Rattle.digest_core.specs.Digests.{IsBytes, IsDigest}

@@ -1,8 +1,8 @@
 -- The act that is next, and what doing it answers.
-use Rattle.std.proofs.Common.{◌≡◌, ℕ, zero, suc, ◌+◌, ◌/◌, ◌%◌, ◌<◌, ◌≤◌, Bool, true, false, not, cond, leb, eqb, List, [], ◌∷◌, length, get_or, take, refl, sym, ap, ◌∙◌, subst, arith, add-zero, IsTrue, Option, Some, None, Result, Ok, Err, ⊎_elim}
+use Rattle.std.proofs.Common.{◌≡◌, ℕ, zero, suc, ◌+◌, ◌/◌, ◌%◌, ◌<◌, ◌≤◌, Bool, true, false, not, cond, leb, List, [], ◌∷◌, length, get_or, take, refl, sym, ap, ◌∙◌, subst, arith, add-zero, IsTrue, Option, Some, None, Result, Ok, Err, ⊎_elim}
 use Rattle.rv_step.proofs.Feet.{data_within}
 use Rattle.std.specs.Int.{byte_len}
-use Rattle.std.proofs.lemmas.Bool.Decides.{nat_tests, leb_tells}
+use Rattle.std.proofs.lemmas.Bool.Decides.{leb_tells}
 use Rattle.std.specs.Prelude.{Contains}
 use Rattle.std.proofs.lemmas.Option.{none-some}
 use Rattle.std.proofs.lemmas.List.Elements.{Contains-append_left, Contains-append_right}
@@ -25,7 +25,6 @@ use Rattle.rv_step.specs.Stepping.{fetch_foot, Opens, AllOpen, IsNext, Answers, 
 use Rattle.rv_step.specs.Acts.{IsSound}
 use Rattle.rv_step.proofs.Acts.{acts_are_sound}
 use Rattle.rv_step.proofs.Frame.{IsSupplied, supplied_act}
-
 use Rattle.page_core.proofs.Listed.{Contains-none, Contains-cases}
 use Rattle.page_core.proofs.Bytes.{in_pages_of}
 use Rattle.rv_step.proofs.Looks.{out, missed, told}

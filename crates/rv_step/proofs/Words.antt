@@ -1,7 +1,6 @@
 -- Bytes, halfwords and words of a memory.
-use Rattle.std.proofs.Common.{◌≡◌, ℕ, zero, suc, ◌+◌, ◌-◌, ◌*◌, ◌/◌, ◌%◌, ◌<◌, ◌≤◌, List, [], ◌∷◌, ◌++◌, length, get_or, take, set, refl, sym, ap, ap₂, ◌∙◌, arith, inl, inr, ◌⊎◌, ⊎_elim, length-append, length-set, get_or-set_same, get_or-set_other, drop}
+use Rattle.std.proofs.Common.{◌≡◌, ℕ, zero, suc, ◌+◌, ◌-◌, ◌*◌, ◌/◌, ◌%◌, ◌<◌, ◌≤◌, List, [], ◌∷◌, ◌++◌, length, get_or, take, set, refl, sym, ap, ap₂, ◌∙◌, arith, inl, inr, ◌⊎◌, ⊎_elim, length-set, get_or-set_same, get_or-set_other, drop}
 use Rattle.std.specs.List.{flat_map}
-use Rattle.std.specs.Prelude.{All}
 use Rattle.std.specs.Int.{w16, w32, to_le_bytes, from_le_bytes}
 use Rattle.std.proofs.lemmas.Bool.Decides.{leb_tells}
 use Rattle.std.proofs.lemmas.List.{flat_map_more, length-take-le}
@@ -132,7 +131,6 @@ pub bytes_on : (m : ℕ → ℕ) (a k : ℕ) → bytes m a (suc k) ≡ bytes m a
 unfolding bytes
 bytes_on m a zero = ap (λ (n : ℕ). m n ∷ []) (omega arith)
 bytes_on m a (suc k) = ap (λ (bs : List ℕ). m a ∷ bs) (bytes_on m (a + 1) k ∙ ap (λ (n : ℕ). bytes m (a + 1) k ++ m n ∷ []) (omega arith))
-
 
 -- one more word after k
 pub word_put : (m n p : ℕ → ℕ) (a at k w : ℕ) (ws : List ℕ) → k < length ws → at ≡ a + 4 * k → w ≡ get_or ws k 0

@@ -1,5 +1,5 @@
 -- What holds of every act, and what a step keeps.
-use Rattle.std.specs.Prelude.{◌≡◌, ℕ, ◌/◌, ◌%◌, ◌^◌, ◌<◌, ◌≤◌, List, [], ◌∷◌, length, IsTrue, IsFalse, Contains}
+use Rattle.std.specs.Prelude.{◌≡◌, ℕ, ◌/◌, ◌%◌, ◌^◌, ◌<◌, ◌≤◌, List, [], ◌∷◌, length, IsTrue, Contains}
 use Rattle.std.specs.Int.{byte_len}
 use Rattle.digest_core.specs.Digests.{IsBytes, IsDigest}
 use Rattle.rv_isa.specs.Registers.{register}

@@ -1,5 +1,5 @@
 -- The registers that a replay begins with.
-use Rattle.std.proofs.Common.{◌≡◌, ℕ, zero, suc, ◌+◌, ◌*◌, ◌/◌, ◌%◌, ◌^◌, ◌<◌, ◌≤◌, List, ◌∷◌, get_or, length, set, replicate, refl, sym, ap, ◌∙◌, arith, mod-eq_of_lt, length-set, get_or-set_same, get_or-set_other, ⊎_elim, Bool, false, Option, Some, None}
+use Rattle.std.proofs.Common.{◌≡◌, ℕ, zero, suc, ◌+◌, ◌*◌, ◌/◌, ◌%◌, ◌^◌, ◌<◌, ◌≤◌, List, ◌∷◌, get_or, length, set, replicate, refl, sym, ap, ◌∙◌, arith, mod-eq_of_lt, length-set, get_or-set_same, get_or-set_other, ⊎_elim, Option, None}
 use Rattle.std.specs.Int.{w32, from_le_bytes}
 use Rattle.page_core.proofs.Zeros.{get_or-same, zero_byte}
 use Rattle.std.proofs.lemmas.List.{ext_get_or}

@@ -4,7 +4,7 @@ use Rattle.std.proofs.lemmas.Bool.{cond_both}
 use Rattle.std.proofs.lemmas.Bool.Decides.{nat_tests}
 use Rattle.rv_isa.specs.declared.fault.Fault.{Fault}
 use Rattle.host_calls.specs.declared.call.Call.{Call}
-use Rattle.host_calls.specs.declared.call.Call.TheVariants.{Halt, Read, Commit, Assume}
+use Rattle.host_calls.specs.declared.call.Call.TheVariants.{Read, Commit, Assume}
 use Rattle.host_calls.specs.Calls.{fits_below, within, checked, read_call_of, ranges_of, takes}
 
 abbrev pub IsFew : Result Call Fault → Type 0

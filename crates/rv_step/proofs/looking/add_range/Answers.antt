@@ -1,7 +1,6 @@
 use Rattle.std.proofs.Common.{◌+◌, ◌-◌, ◌/◌, ◌∙◌, length, sym, ap, arith}
 use Rattle.host_calls.proofs.Placed.{data_size}
 use Rattle.host_calls.specs.Foots.{with_data, with_pages}
-
 use Rattle.rv_step.proofs.Looks.{one_page_of, two_pages_of}
 use Rattle.rv_step.proofs.looking.add_range.Goals as goal
 
