@@ -34,7 +34,9 @@ use crate::measures::{count_digests, hash_pages, now, say_since};
 use crate::memory_tree::ask_tree;
 use crate::pages::ask_pages;
 use crate::pieces::bytes_of;
-use crate::receipts::{read_file, read_prefixes, read_seal_file, read_tree_file, say_entries};
+use crate::receipts::{
+    read_file, read_prefixes, read_seal_file, read_tree_file, say_entries, say_report,
+};
 use crate::running::{Faults, run, say};
 use crate::runs::{count_cuts, flat_calls, say_cuts};
 use crate::shelf::Shelf;
@@ -141,6 +143,7 @@ fn layer_row<R: Print + AllocGlobal>(rt: &R, shelf: &Shelf, words: &[&str]) -> R
         ["sink", room, fail, texts @ ..] => sink_puts(rt, room, fail, texts),
         ["read", name] => read_file(rt, shelf, name),
         ["entries", name] => say_entries(rt, shelf, name),
+        ["inspect", name] => say_report(rt, shelf, name),
         ["prefixes", name] => read_prefixes(rt, shelf, name),
         ["read-seal", name] => read_seal_file(rt, shelf, name),
         ["read-tree", name] => read_tree_file(rt, shelf, name),

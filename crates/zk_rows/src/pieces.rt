@@ -8,7 +8,9 @@ use crate::tree::put_tree;
 use crate::words::{decimal, hexadecimal};
 use byte_cursor::{ByteList, Out};
 use digest_core::{ShaDigester, WeakDigester, hash};
+use guest_gen::{SIZE_MAX, generate};
 use outside::{DirDesk, read_all};
+use std::alloc::Global;
 use std::rt::Files;
 
 /// The bytes of these pieces, one after the other.
@@ -45,9 +47,27 @@ fn put_made<R: Files + AllocGlobal>(
         }
         "sha" => out.put_all(hash::<ShaDigester>(named(shelf, text)?).bytes().as_slice())?,
         "elf" => out.put_all(elf_of(rt.alloc(), named(shelf, text)?)?.as_slice())?,
+        "guest" | "guest-words" => put_generated(rt.alloc(), out, kind, text)?,
         "tree" => put_tree::<ShaDigester>(rt.alloc(), shelf, out, text)?,
         "weaktree" => put_tree::<WeakDigester>(rt.alloc(), shelf, out, text)?,
         _ => return Err(RowStop::NoRow),
+    }
+    Ok(())
+}
+
+// `guest:NUMBER,SIZE`, the ELF file of the generator's guest, or `guest-words:NUMBER,SIZE`, its input.
+fn put_generated(alloc: Global, out: &mut Out, kind: &str, text: &str) -> Result<(), RowStop> {
+    let (number, size) = text.split_once(',').ok_or(RowStop::NoRow)?;
+    let (number, size) = (decimal(number)?, decimal(size)?);
+    if size < 1 || size > SIZE_MAX {
+        return Err(RowStop::NoRow);
+    }
+    let (file, words) = generate(alloc, u64::from(number), size)?;
+    if kind == "guest" {
+        return Ok(out.put_all(file.as_slice())?);
+    }
+    for word in words.as_slice() {
+        out.put_u32(*word)?;
     }
     Ok(())
 }

@@ -4,9 +4,13 @@ use crate::running::say;
 use crate::shelf::Shelf;
 use crate::stop::RowStop;
 use byte_cursor::{Cursor, Out};
+use check_core::Checked;
+use digest_core::ShaDigester;
+use inspect_json::report_text;
 use receipt_codec::{
     BundleStop, read_bundle, read_seal, read_tree, write_bundle, write_seal, write_tree,
 };
+use std::str;
 
 /// Prints how many entries a receipt's bundle has and whether it is written as it was read, or why it isn't read.
 pub(crate) fn read_file<R: Print + AllocGlobal>(
@@ -47,6 +51,26 @@ pub(crate) fn say_entries<R: Print + AllocGlobal>(
         )?;
     }
     Ok(())
+}
+
+/// Prints the JSON text of a receipt's report under the digest of its own first state.
+pub(crate) fn say_report<R: Print + AllocGlobal>(
+    rt: &R,
+    shelf: &Shelf,
+    name: &str,
+) -> Result<(), RowStop> {
+    let alloc = rt.alloc();
+    let Ok(bundle) = read_bundle(alloc, shelf.bytes(name).ok_or(RowStop::NoRow)?) else {
+        return Err(RowStop::NoRow);
+    };
+    let Ok(checked) = Checked::<ShaDigester>::new(alloc, bundle) else {
+        return Err(RowStop::NoRow);
+    };
+    let text = report_text(alloc, checked.report())?;
+    match str::from_utf8(text.as_slice()) {
+        Ok(line) => say(rt, line.trim_end()),
+        Err(_) => Err(RowStop::NoRow),
+    }
 }
 
 /// Prints how the bytes of a file that are cut short, at each length, are read.
