@@ -2,14 +2,16 @@
 # Proves and builds zk_check and zk_prove, and leaves them in bin/. Prints the image id of a guest, checks a receipt under this
 # id and under another one, and then 36 bytes that claim 16,777,216 input words, in 20 MB of address space: room is made for
 # the words that are there alone. Runs a guest that was written in C on the words 1071 and 462, proves that run, and checks
-# its receipt under the guest's image id; and then the receipt with one byte changed, so that it claims one step more.
+# its receipt under the guest's image id, with its journal in a file; prints its claims; and checks the receipt with one byte
+# changed, so that it claims one step more.
 set -u
 cd "$(dirname "$0")" || exit 1
 
 log=$(mktemp)
 pair=$(mktemp)
 made=$(mktemp)
-trap 'rm -f "$log" "$pair" "$made"' EXIT
+journal=$(mktemp)
+trap 'rm -f "$log" "$pair" "$made" "$journal"' EXIT
 
 # Prints a command, runs it, and fails where its status isn't the one that is wanted.
 show() {
@@ -22,9 +24,9 @@ show() {
     [ "$status" = "$wanted" ] || exit 1
 }
 
-# Builds a program, whose crates are proved, and runs it once on a file of its data.
+# Builds a program, whose crates are proved, and runs it once on words of one or none of its commands.
 build() {
-    (cd "$copy/crates/$1" && rt run -- id data/halts_7.elf) >"$log" 2>&1
+    (cd "$copy/crates/$1" && rt run -- id halts_7.elf) >"$log" 2>&1
     [ -x "$copy/crates/$1/out/$1" ] || { cat "$log"; exit 1; }
     cp "$copy/crates/$1/out/$1" bin/ || exit 1
 }
@@ -63,10 +65,12 @@ guest=examples/guests/gcd.elf
 printf '\057\004\000\000\316\001\000\000' >"$pair"
 show 0 bin/zk_prove exec "$guest" "$pair" 1000
 show 1 bin/zk_prove exec "$guest" "$pair" 10
-show 0 bin/zk_prove prove "$guest" "$pair" "$made" 1048576 1024 16777216 0
+show 0 bin/zk_prove prove "$guest" "$pair" "$made"
 show 0 bin/zk_check id "$guest"
 id=$(bin/zk_check id "$guest" | cut -d ' ' -f 2)
-show 0 bin/zk_check check "$made" "$id"
+show 0 bin/zk_check check "$made" "$id" "$journal"
+show 0 od -An -td4 "$journal"
+show 0 bin/zk_check inspect "$made"
 
 # The number of steps of the first seal stands at byte 20.
 printf '\041' | dd of="$made" bs=1 seek=20 conv=notrunc 2>/dev/null

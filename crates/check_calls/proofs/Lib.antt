@@ -1,3 +1,4 @@
-pub mod Answered
-pub mod Ended
-pub mod Accepting
+pub mod Checks
+pub mod Ids
+pub mod Inspections
+pub mod Commands

@@ -1,5 +1,4 @@
-pub mod Words
-pub mod Lines
-pub mod Answers
-pub mod Ends
-pub mod Views
+pub mod Check
+pub mod Id
+pub mod Inspect
+pub mod Top

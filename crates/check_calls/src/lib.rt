@@ -1,11 +1,10 @@
-//! The public call that checks receipts: reads one, judges it under an image id, and prints the verdict. And tells the
-//! image id of a guest's ELF file.
+//! The public call that answers the words of `zk_check`: it checks a receipt under an image id, prints the id of a guest's
+//! image, and prints the claims of a receipt.
 #![tactic(auto)]
 
-mod identifying;
-mod job;
-mod judging;
+mod check;
+mod id;
+mod inspect;
 mod top;
-mod usage;
 
 pub use top::check_top;

@@ -15,7 +15,7 @@ use Rattle.receipt_types.specs.Seals.{Seal}
 use Rattle.seal_replay.specs.Replay.{stop_of, ending}
 use Rattle.seal_replay.specs.Claiming.{before_of, after_of, claim_of}
 use Rattle.page_core.proofs.Options.{first_none, second_none}
-use Rattle.lift_join.specs.Joins.{joined, chain_of}
+use Rattle.lift_join.specs.Joins.{joint_claim, chain_of}
 use Rattle.lift_join.proofs.Inversion.{HasClaim, has_claim}
 use Rattle.check_core.specs.declared.stop.CheckStop.{CheckStop}
 use Rattle.check_core.specs.Judgement.{broken_stop, joint_stop, end_stop, seal_stop, no_more, seals_stop}
@@ -116,7 +116,7 @@ module _ (H : List ℕ → List ℕ) (e k : ℕ) (seals : List Seal) (chain : Op
     chain_with (x ∷ done) before (claim, known, chain) goes follows =
         let split : claim.exit ≡ Split = subst GoesOn known goes in
         let meet : claim.after ≡ next.before = subst (λ (b : Option SpanClaim). Meets (after_chain b) next.before) known follows in
-        (joined claim next, ap (λ (b : Option SpanClaim). Some (join_next b next)) known, chain_joined H (x ∷ done) (seal ∷ []) claim next chain claims split meet)
+        (joint_claim claim next, ap (λ (b : Option SpanClaim). Some (join_next b next)) known, chain_joined H (x ∷ done) (seal ∷ []) claim next chain claims split meet)
 
     here_not_none : drop k seals ≢ []
     here_not_none e = not_none seal (drop (k + 1) seals) (sym here ∙ e)

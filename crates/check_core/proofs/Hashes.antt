@@ -10,7 +10,7 @@ use Rattle.digest_core.specs.Digests.{IsBytes, IsDigest}
 use Rattle.digest_core.specs.Tagged.{tag_string, list_digest}
 use Rattle.page_core.specs.Pages.{ArePages}
 use Rattle.part_tree.specs.Tree.{root, node_string, tree_strings}
-use Rattle.part_tree.specs.Part.{Part, pruned, branch, leaf, IsPart, part_strings, put}
+use Rattle.part_tree.specs.Part.{Part, pruned, branch, leaf, IsPart, part_strings, put_part}
 use Rattle.part_tree.proofs.Made.{bytes_of_root, tree_bytes, part_bytes}
 use Rattle.part_tree.proofs.Strings.{Contains-one}
 use Rattle.host_calls.specs.declared.call.AssumeCall.{AssumeCall}
@@ -97,7 +97,7 @@ claim_tag_bytes = small_bytes claim_tag refl
 pub page_bytes : (m : ℕ → ℕ) → ((a : ℕ) → m a < 256) → ArePages (page_of m)
 page_bytes m h i = (length-bytes m (1024 * i) 1024, bytes_are m (1024 * i) 1024 h)
 
-put_shape : (h i : ℕ) (t : Part) (m : ℕ → List ℕ) → ArePages m → IsPart h t → IsPart h (put i t m)
+put_shape : (h i : ℕ) (t : Part) (m : ℕ → List ℕ) → ArePages m → IsPart h t → IsPart h (put_part i t m)
 put_shape h i (pruned digest) m memory shape = shape
 put_shape zero i (branch left right) m memory shape = shape
 put_shape (suc h) i (branch left right) m memory shape = (put_shape h (2 * i) left m memory shape.0, put_shape h (2 * i + 1) right m memory shape.1)

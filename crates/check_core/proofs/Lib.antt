@@ -17,4 +17,5 @@ pub mod Stopping
 pub mod Steps
 pub mod Claims
 pub mod Linked
+pub mod Refusing
 pub mod Public

@@ -18,7 +18,7 @@ use Rattle.lift_join.specs.Joins.{chain_of}
 use Rattle.receipt_types.specs.Bundles.{Entry, Bundle, item, IsBundle}
 use Rattle.check_core.specs.Entries.{claim_in, digest_or_none, digest_in}
 use Rattle.check_core.specs.Judgement.{Answered, AllAccepted}
-use Rattle.check_core.specs.Hashed.{compared_oks, compared}
+use Rattle.check_core.specs.Hashed.{compared_oks, compared_strings}
 use Rattle.check_core.specs.Vouching.{LinkedTo, Linked}
 use Rattle.part_tree.specs.Splits.{Pair, differ, Exhibits}
 use Rattle.check_core.specs.Auditing.{link_pair, calls_pair}
@@ -77,23 +77,23 @@ module _ (H : List ℕ → List ℕ) (is_digest : (x : List ℕ) → IsDigest (H
       let zero_code : ok.code ≡ 0 = code_zero ok.code small (ap exit_bytes (sym halted) ∙ e) in
       halted ∙ ap HaltedWith zero_code
 
-  linked_to : (call : AssumeCall) (link : ℕ) → IsDigest call.image → IsDigest call.journal → Contains (compared H B image) (ok_string H call) → Contains (compared H B image) (ok_output H call)
-      → ok_digest H call ≡ digest_in H B link → LinkedTo H B call link ⊎ Exhibits H (compared H B image) (link_pair H (claim_in H B link) call)
+  linked_to : (call : AssumeCall) (link : ℕ) → IsDigest call.image → IsDigest call.journal → Contains (compared_strings H B image) (ok_string H call) → Contains (compared_strings H B image) (ok_output H call)
+      → ok_digest H call ≡ digest_in H B link → LinkedTo H B call link ⊎ Exhibits H (compared_strings H B image) (link_pair H (claim_in H B link) call)
   linked_to call link is_image is_journal ok_in out_in e =
       let (claim, is_claim, same_digest) = found (ok_digest H call) (claim_in H B link) (is_digest (ok_string H call)).0 e in
       let (entry, is_entry, chain) = claim_entry H B link claim is_claim in
       let one : Option Pair = differ (claim_string H claim) (ok_string H call) in
       let two : Option Pair = differ (resolved_output H claim) (ok_output H call) in
-      let here : Exhibits H (compared H B image) (option_or one two) → Exhibits H (compared H B image) (link_pair H (claim_in H B link) call) =
-      λ x. subst (λ (o : Option SpanClaim). Exhibits H (compared H B image) (link_pair H o call)) (sym is_claim) x in
-      elim (same_or_shown H (compared H B image) (claim_string H claim) (ok_string H call) (string_in H B image link entry is_entry claim chain) ok_in (sym same_digest)) [
+      let here : Exhibits H (compared_strings H B image) (option_or one two) → Exhibits H (compared_strings H B image) (link_pair H (claim_in H B link) call) =
+      λ x. subst (λ (o : Option SpanClaim). Exhibits H (compared_strings H B image) (link_pair H o call)) (sym is_claim) x in
+      elim (same_or_shown H (compared_strings H B image) (claim_string H claim) (ok_string H call) (string_in H B image link entry is_entry claim chain) ok_in (sym same_digest)) [
         | inl same ↦
             let parts =
             claim_parts H (state_digest H claim.before) (state_digest H claim.after) (H (resolved_output H claim)) call.image (state_digest H halted_state) (H (ok_output H call)) claim.exit (HaltedWith 0)
             ((is_digest (state_string H claim.before)).0 ∙ sym is_image.0)
             ((is_digest (state_string H claim.after)).0 ∙ sym (is_digest (state_string H halted_state)).0)
             ((is_digest (resolved_output H claim)).0 ∙ sym (is_digest (ok_output H call)).0) same in
-            elim (same_or_shown H (compared H B image) (resolved_output H claim) (ok_output H call) (output_in H B image link entry is_entry claim chain) out_in parts.2) [
+            elim (same_or_shown H (compared_strings H B image) (resolved_output H claim) (ok_output H call) (output_in H B image link entry is_entry claim chain) out_in parts.2) [
               | inl out ↦ inl (record {
                 claim = claim;
                 is_claim = is_claim;
@@ -101,23 +101,23 @@ module _ (H : List ℕ → List ℕ) (is_digest : (x : List ℕ) → IsDigest (H
                 exit = exit_zero entry claim link is_entry chain parts.3;
                 journal = (output_parts H (H claim.journal) zero_digest call.journal zero_digest ((is_digest claim.journal).0 ∙ sym is_journal.0) refl out).0;
               })
-              | inr x ↦ inr (here (then_shown H (compared H B image) one two (differ_same (claim_string H claim) (ok_string H call) same) x))
+              | inr x ↦ inr (here (then_shown H (compared_strings H B image) one two (differ_same (claim_string H claim) (ok_string H call) same) x))
             ]
-        | inr x ↦ inr (here (first_shown H (compared H B image) one two x))
+        | inr x ↦ inr (here (first_shown H (compared_strings H B image) one two x))
       ]
 
-  pub all_linked : (calls : List AssumeCall) (links : List ℕ) → AreCalls calls → ((x : List ℕ) → Contains (flat_map (compared_oks H) calls) x → Contains (compared H B image) x)
-      → Answered H B calls links → Linked H B calls links ⊎ Exhibits H (compared H B image) (calls_pair H B calls links)
+  pub all_linked : (calls : List AssumeCall) (links : List ℕ) → AreCalls calls → ((x : List ℕ) → Contains (flat_map (compared_oks H) calls) x → Contains (compared_strings H B image) x)
+      → Answered H B calls links → Linked H B calls links ⊎ Exhibits H (compared_strings H B image) (calls_pair H B calls links)
   all_linked [] [] are held answered = inl tt
   all_linked [] (link ∷ links) are held answered = absurd answered
   all_linked (call ∷ calls) [] are held answered = absurd answered
   all_linked (call ∷ calls) (link ∷ links) are held answered =
-      let mine : (x : List ℕ) → Contains (compared_oks H call) x → Contains (compared H B image) x =
+      let mine : (x : List ℕ) → Contains (compared_oks H call) x → Contains (compared_strings H B image) x =
       λ x c. held x (Contains-append_left (compared_oks H call) (flat_map (compared_oks H) calls) x c) in
       elim (linked_to call link are.0.0 are.0.1 (mine (ok_string H call) (1, omega arith, refl)) (mine (ok_output H call) (0, omega arith, refl)) answered.0) [
         | inl one ↦ elim (all_linked calls links are.1 (λ x c. held x (Contains-append_right (compared_oks H call) (flat_map (compared_oks H) calls) x c)) answered.1) [
           | inl rest ↦ inl (one, rest)
-          | inr x ↦ inr (then_shown H (compared H B image) (link_pair H (claim_in H B link) call) (calls_pair H B calls links) (linked_unpaired H B call link one) x)
+          | inr x ↦ inr (then_shown H (compared_strings H B image) (link_pair H (claim_in H B link) call) (calls_pair H B calls links) (linked_unpaired H B call link one) x)
         ]
-        | inr x ↦ inr (first_shown H (compared H B image) (link_pair H (claim_in H B link) call) (calls_pair H B calls links) x)
+        | inr x ↦ inr (first_shown H (compared_strings H B image) (link_pair H (claim_in H B link) call) (calls_pair H B calls links) x)
       ]

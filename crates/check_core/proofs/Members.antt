@@ -15,7 +15,7 @@ use Rattle.claim_types.specs.Claims.{SpanClaim, resolved_output, conditional_out
 use Rattle.lift_join.specs.Joins.{chain_of}
 use Rattle.receipt_types.specs.Bundles.{Entry, Bundle, item, IsEntry, AreEntries}
 use Rattle.check_core.specs.Entries.{first_of, first_at, claim_in}
-use Rattle.check_core.specs.Hashed.{seal_strings, ok_strings, claim_strings, entry_strings, tag_names, strings_of, compared_oks, compared_claim, compared_entry, compared}
+use Rattle.check_core.specs.Hashed.{seal_strings, ok_strings, claim_strings, entry_strings, tag_names, strings_of, compared_oks, compared_claim, compared_entry, compared_strings}
 use Rattle.check_core.specs.Laws.{ComparedAreHashed}
 
 -- ---- the value of a call on an option
@@ -48,39 +48,39 @@ module _ (H : List ℕ → List ℕ) (B : Bundle) (image : Image) where
   abbrev of_image : List (List ℕ)
   of_image = tree_strings H (page_of image.memory) 18 0 ++ (image_string H image ∷ [])
 
-  pub tree_in : (x : List ℕ) → Contains (tree_strings H (page_of image.memory) 18 0) x → Contains (compared H B image) x
+  pub tree_in : (x : List ℕ) → Contains (tree_strings H (page_of image.memory) 18 0) x → Contains (compared_strings H B image) x
   tree_in x c =
       Contains-append_right (flat_map (compared_entry H) B) of_image x (Contains-append_left (tree_strings H (page_of image.memory) 18 0) (image_string H image ∷ []) x c)
 
-  pub image_in : Contains (compared H B image) (image_string H image)
+  pub image_in : Contains (compared_strings H B image) (image_string H image)
   image_in =
       Contains-append_right (flat_map (compared_entry H) B) of_image (image_string H image)
       (Contains-append_right (tree_strings H (page_of image.memory) 18 0) (image_string H image ∷ []) (image_string H image) (0, omega arith, refl))
 
   module _ (e : ℕ) (entry : Entry) (is_entry : item B e ≡ Some entry) where
-    entry_in : (x : List ℕ) → Contains (compared_entry H entry) x → Contains (compared H B image) x
+    entry_in : (x : List ℕ) → Contains (compared_entry H entry) x → Contains (compared_strings H B image) x
     entry_in x c = Contains-append_left (flat_map (compared_entry H) B) of_image x (in_entries (compared_entry H) B e entry is_entry x c)
 
-    pub seals_in : (x : List ℕ) → Contains (flat_map (seal_strings H) entry.seals) x → Contains (compared H B image) x
+    pub seals_in : (x : List ℕ) → Contains (flat_map (seal_strings H) entry.seals) x → Contains (compared_strings H B image) x
     seals_in x c = entry_in x (Contains-append_left (flat_map (seal_strings H) entry.seals) (compared_claim H (chain_of H entry.seals)) x c)
 
     module _ (claim : SpanClaim) (chain : chain_of H entry.seals ≡ Some claim) where
-      claim_in_all : (x : List ℕ) → Contains (compared_claim H (Some claim)) x → Contains (compared H B image) x
+      claim_in_all : (x : List ℕ) → Contains (compared_claim H (Some claim)) x → Contains (compared_strings H B image) x
       claim_in_all x c =
           entry_in x
           (Contains-append_right (flat_map (seal_strings H) entry.seals) (compared_claim H (chain_of H entry.seals)) x
           (subst (λ (o : Option SpanClaim). Contains (compared_claim H o) x) (sym chain) c))
 
-      pub before_in : Contains (compared H B image) (state_string H claim.before)
+      pub before_in : Contains (compared_strings H B image) (state_string H claim.before)
       before_in = claim_in_all (state_string H claim.before) (0, omega arith, refl)
 
-      pub output_in : Contains (compared H B image) (resolved_output H claim)
+      pub output_in : Contains (compared_strings H B image) (resolved_output H claim)
       output_in = claim_in_all (resolved_output H claim) (1, omega arith, refl)
 
-      pub string_in : Contains (compared H B image) (claim_string H claim)
+      pub string_in : Contains (compared_strings H B image) (claim_string H claim)
       string_in = claim_in_all (claim_string H claim) (2, omega arith, refl)
 
-      pub oks_in : (x : List ℕ) → Contains (flat_map (compared_oks H) claim.calls) x → Contains (compared H B image) x
+      pub oks_in : (x : List ℕ) → Contains (flat_map (compared_oks H) claim.calls) x → Contains (compared_strings H B image) x
       oks_in x c =
           claim_in_all x
           (Contains-append_right (state_string H claim.before ∷ resolved_output H claim ∷ claim_string H claim ∷ []) (flat_map (compared_oks H) claim.calls) x c)

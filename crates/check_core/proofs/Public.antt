@@ -9,3 +9,5 @@ pub use Rattle.check_core.proofs.Unstopped
 pub use Rattle.check_core.proofs.Claims
 -- the links of a bundle's entries, one after the other
 pub use Rattle.check_core.proofs.Linked
+-- the bytes of an accepted bundle aren't refused
+pub use Rattle.check_core.proofs.Refusing

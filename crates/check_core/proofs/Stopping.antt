@@ -23,7 +23,7 @@ use Rattle.check_core.specs.declared.stop.CheckStop.{CheckStop}
 use Rattle.check_core.specs.declared.stop.CheckStop.TheVariants as Stop
 use Rattle.check_core.specs.Entries.{first_at, digest_in}
 use Rattle.check_core.specs.Judgement.{Accepts, stop_unless, image_stop, broken_stop, joint_stop, exit_stop, end_stop, seal_stop, no_more, seals_stop, entries_stop, calls_stop, links_stop, all_links_stop, first_stop}
-use Rattle.check_core.specs.Checking.{Stops}
+use Rattle.check_core.specs.Checking.{StopsCheck}
 use Rattle.check_core.specs.Checked.{IsOwnId, StopsItself}
 use Rattle.check_core.proofs.Unstopped.{accepted_unstopped, image_none}
 use Rattle.check_core.proofs.Linked.{unless_fails, other_bytes}
@@ -135,7 +135,7 @@ first_some H B id stop h =
     (either_some (image_stop H id (first_at H B 0)) (option_or (entries_stop H 0 B) (all_links_stop H B 0 B)) stop h)
 
 -- the first stop refuses the bundle
-pub stops_first : (H : List ℕ → List ℕ) (B : Bundle) (id : List ℕ) (stop : CheckStop) → first_stop H B id ≡ Some stop → Stops H B id stop
+pub stops_first : (H : List ℕ → List ℕ) (B : Bundle) (id : List ℕ) (stop : CheckStop) → first_stop H B id ≡ Some stop → StopsCheck H B id stop
 stops_first H B id Stop.Malformed first = first_some H B id Stop.Malformed first
 stops_first H B id (Stop.Version version) first = first_some H B id (Stop.Version version) first
 stops_first H B id Stop.Memory first = tt
@@ -161,25 +161,25 @@ wrong_image H id found None h other = absurd (cc)
 -- ---- a bundle whose first state has this digest
 module _ (H : List ℕ → List ℕ) (B : Bundle) (id found : List ℕ) (first : option_map (state_digest H) (first_at H B 0) ≡ Some found) where
   -- another than the id
-  pub image_stopped : found ≢ id → Stops H B id (Stop.WrongImage found)
+  pub image_stopped : found ≢ id → StopsCheck H B id (Stop.WrongImage found)
   image_stopped other = ap (λ (o : Option CheckStop). option_or o (option_or (entries_stop H 0 B) (all_links_stop H B 0 B))) (wrong_image H id found (first_at H B 0) first other)
 
   module _ (same : found ≡ id) where
     first_is : first_stop H B id ≡ option_or (entries_stop H 0 B) (all_links_stop H B 0 B)
     first_is = ap (λ (o : Option CheckStop). option_or o (option_or (entries_stop H 0 B) (all_links_stop H B 0 B))) (right_image H id found (first_at H B 0) first same)
 
-    pub seals_stopped : (stop : CheckStop) → entries_stop H 0 B ≡ Some stop → Stops H B id stop
+    pub seals_stopped : (stop : CheckStop) → entries_stop H 0 B ≡ Some stop → StopsCheck H B id stop
     seals_stopped stop h = stops_first H B id stop (first_is ∙ ap (λ (o : Option CheckStop). option_or o (all_links_stop H B 0 B)) h)
 
     module _ (unstopped : entries_stop H 0 B ≡ None) where
-      pub links_stopped : (stop : CheckStop) → all_links_stop H B 0 B ≡ Some stop → Stops H B id stop
+      pub links_stopped : (stop : CheckStop) → all_links_stop H B 0 B ≡ Some stop → StopsCheck H B id stop
       links_stopped stop h = stops_first H B id stop (first_is ∙ ap₂ (λ (a b : Option CheckStop). option_or a b) unstopped h)
 
       pub accepted : KeepsLimits B → all_links_stop H B 0 B ≡ None → Accepts H B id
       accepted limits h = (accepted_unstopped H B id (limits_give_form B limits)).0 (first_is ∙ ap₂ (λ (a b : Option CheckStop). option_or a b) unstopped h)
 
 -- ---- under the digest of its own first state
-pub stops_itself : (H : List ℕ → List ℕ) (B : Bundle) (id : List ℕ) (stop : CheckStop) → IsOwnId H B id → Stops H B id stop → StopsItself H B stop
+pub stops_itself : (H : List ℕ → List ℕ) (B : Bundle) (id : List ℕ) (stop : CheckStop) → IsOwnId H B id → StopsCheck H B id stop → StopsItself H B stop
 stops_itself H B id Stop.Malformed own stops = absurd stops
 stops_itself H B id (Stop.Version version) own stops = absurd stops
 stops_itself H B id (Stop.WrongImage found) own stops = absurd (parts_some H B (Stop.WrongImage found) (sym (first_is H B id id own refl) ∙ stops))

@@ -2,7 +2,7 @@
 use Rattle.std.proofs.Common.{◌≡◌, ◌⊎◌, inl, inr, ℕ, zero, suc, ◌+◌, ◌/◌, ◌<◌, List, ◌++◌, Some, None, sym, ap, ◌∙◌, subst, arith}
 use Rattle.std.specs.Prelude.{Contains}
 use Rattle.part_tree.specs.Tree.{root, tree_strings}
-use Rattle.part_tree.specs.Part.{Part, opened, part_strings, root_of, Agree}
+use Rattle.part_tree.specs.Part.{Part, open_numbers, part_strings, root_of, Agree}
 use Rattle.part_tree.proofs.Change.{put_has_new_strings}
 use Rattle.page_core.specs.Memory.{Within}
 use Rattle.rv_step.specs.Machine.{State, foot_of, full}
@@ -55,16 +55,16 @@ module _ (H : List ℕ → List ℕ) (r s : State) (b : ℕ) (seal : Seal) (rest
   pub begins : BeginsAt r b seal
   begins = record { state = s; reached = reached; pc = same_pc; shows = tree_shows H (full s) seal.tree agree }
 
-  module _ (t : State) (ends : ending seal ≡ Some (Split, t)) (v : State) (there : after s seal.steps ≡ Some v) (like : Alike (opened 0 seal.tree) (beside s rest) t v) where
+  module _ (t : State) (ends : ending seal ≡ Some (Split, t)) (v : State) (there : after s seal.steps ≡ Some v) (like : Alike (open_numbers 0 seal.tree) (beside s rest) t v) where
     -- the run changes no page that is closed
-    leaves : (a : ℕ) → ¬ Contains (opened 0 seal.tree) (a / 1024) → v.memory a ≡ s.memory a
+    leaves : (a : ℕ) → ¬ Contains (open_numbers 0 seal.tree) (a / 1024) → v.memory a ≡ s.memory a
     leaves a closed =
-        run_leaves (opened 0 seal.tree) (beside s rest) (enter seal) s seal.steps t v
+        run_leaves (open_numbers 0 seal.tree) (beside s rest) (enter seal) s seal.steps t v
         (enters_ready r s b seal rest reached fit supplied clean some_steps begins)
         (enters_alike r s b seal rest reached fit supplied clean some_steps begins)
         (splits seal t ends) (λ k u l e. feet_open seal clean k u l e) there a closed
 
-    registers : Contains (opened 0 seal.tree) 262143
+    registers : Contains (open_numbers 0 seal.tree) 262143
     registers = opens_registers r s b seal rest reached fit supplied clean some_steps begins
 
     pub root_after : root_of H (put_tree seal t) ≡ root H (page_of (full v))
@@ -86,7 +86,7 @@ module _ (H : List ℕ → List ℕ) (r s : State) (b : ℕ) (seal : Seal) (rest
       record {
         state = v;
         reached = there;
-        ready = ready_like (opened 0 seal.tree) (beside s rest) t v good like;
+        ready = ready_like (open_numbers 0 seal.tree) (beside s rest) t v good like;
         words = like.words ∙ ap (λ (ws : List ℕ). ws ++ rest) (all_used seal Split t clean ends);
         pc = like.pc;
         root_is = root_after t ends v from_s like;

@@ -19,12 +19,12 @@ use Rattle.claim_types.specs.States.{state_digest}
 use Rattle.claim_types.specs.Claims.{SpanClaim, ok_digest}
 use Rattle.receipt_types.specs.Seals.{Seal}
 use Rattle.seal_replay.specs.Claiming.{before_of, after_of, claim_at, claim_of}
-use Rattle.lift_join.specs.Joins.{same_state, joined, join_both, chain_of}
+use Rattle.lift_join.specs.Joins.{same_state, joint_claim, join_both, chain_of}
 use Rattle.receipt_types.specs.Bundles.{Entry, Bundle, AreEntries}
 use Rattle.check_core.specs.Entries.{first_of, first_at, digest_in}
 use Rattle.check_core.specs.declared.stop.CheckStop.{CheckStop}
 use Rattle.check_core.specs.declared.stop.CheckStop.TheVariants.{WrongImage, Unjoined, LinkCount, BadLink}
-use Rattle.check_core.specs.Judgement.{Answered, Halts, AllAccepted, stop_unless, image_stop, broken_stop, joint_stop, end_stop, seal_stop, no_more, seals_stop, entries_stop, calls_stop, links_stop, all_links_stop}
+use Rattle.check_core.specs.Judgement.{Answered, ChainHalts, AllAccepted, stop_unless, image_stop, broken_stop, joint_stop, end_stop, seal_stop, no_more, seals_stop, entries_stop, calls_stop, links_stop, all_links_stop}
 use Rattle.check_core.specs.Laws.{AcceptedUnstopped}
 use Rattle.lift_join.proofs.Inversion.{has_claim, joins, same_state_tells}
 use Rattle.std.proofs.lemmas.Bool.{eqb-true}
@@ -91,7 +91,7 @@ unstopped H e k last seal seals h =
     }
 
 abbrev HaltsAfterState : (List ℕ → List ℕ) → Option SystemState → List Seal → Type 0
-HaltsAfterState H last seals = (h : Halts H seals) × Meets last h.claim.before
+HaltsAfterState H last seals = (h : ChainHalts H seals) × Meets last h.claim.before
 
 none_halts : (H : List ℕ → List ℕ) (e k : ℕ) (last : Option SystemState) (seals : List Seal) → seals ≢ [] → seals_stop H e k last seals ≡ None → HaltsAfterState H last seals
 none_halts H e k last [] n h = absurd (n refl)
@@ -104,10 +104,10 @@ none_halts H e k last (seal ∷ next ∷ seals) n h =
     let is : u.exit.0 ≡ Split = inner_splits e k u.exit u.end_none in
     let (rest, meets) = none_halts H e (k + 1) (Some (after_of H seal u.exit)) (next ∷ seals) (not_none next seals) u.rest in
     let here = claim_at H seal u.exit in
-    let chain : chain_of H (seal ∷ next ∷ seals) ≡ Some (joined here rest.claim) =
+    let chain : chain_of H (seal ∷ next ∷ seals) ≡ Some (joint_claim here rest.claim) =
     ap₂ join_both (claim_from H seal u.exit u.clean u.ends) rest.chain
     ∙ join_some here rest.claim is meets in
-    (record { claim = joined here rest.claim; code = rest.code; chain = chain; exit = rest.exit }, u.meets)
+    (record { claim = joint_claim here rest.claim; code = rest.code; chain = chain; exit = rest.exit }, u.meets)
 
 -- and back
 meets_at : (o : Option SystemState) (s t : SystemState) → s ≡ t → Meets o s → Meets o t

@@ -21,7 +21,7 @@ use Rattle.lift_join.specs.Joins.{chain_of}
 use Rattle.receipt_types.specs.Bundles.{Entry, Bundle, item, AreSeals, IsBundle}
 use Rattle.check_core.specs.Entries.{first_of, first_at}
 use Rattle.check_core.specs.Judgement.{Accepts}
-use Rattle.check_core.specs.Hashed.{hashed, compared}
+use Rattle.check_core.specs.Hashed.{hashed_strings, compared_strings}
 use Rattle.check_core.specs.Vouching.{SealsAgree, Faithful}
 use Rattle.digest_core.specs.Collisions.{Collides, IsCollision}
 use Rattle.check_core.specs.Laws.{FaithfulVouches, FaithfulOrCollides, Headline, AuditIsExact}
@@ -64,11 +64,11 @@ module _ (H : List ℕ → List ℕ) (is_digest : (x : List ℕ) → IsDigest (H
   module _ (B : Bundle) (id : List ℕ) (e : ℕ) (image : Image) (good : IsBundle B) (is_image : IsImage image) (accepts : Accepts H B id) where
     -- where the first state is the image's, the seals agree with the run or a pair is shown
     seals_agree : (entry : Entry) (is_entry : item B e ≡ Some entry) (claim : SpanClaim) (code : ℕ) (chain : chain_of H entry.seals ≡ Some claim) (exit : claim.exit ≡ HaltedWith code)
-        → claim.before ≡ image_state H image → SealsAgree H (start image (words_of entry.seals)) 0 entry.seals ⊎ Exhibits H (compared H B image) (seals_pair H (Some (start image (words_of entry.seals))) entry.seals)
+        → claim.before ≡ image_state H image → SealsAgree H (start image (words_of entry.seals)) 0 entry.seals ⊎ Exhibits H (compared_strings H B image) (seals_pair H (Some (start image (words_of entry.seals))) entry.seals)
     unfolding after
     seals_agree entry is_entry claim code chain exit begins =
         let s : State = start image (words_of entry.seals) in
-        agree_all H is_digest (compared H B image) s s 0 entry.seals claim code chain exit (entry_at B e entry good.entries is_entry).seals
+        agree_all H is_digest (compared_strings H B image) s s 0 entry.seals claim code chain exit (entry_at B e entry good.entries is_entry).seals
         refl (start_ready image (words_of entry.seals) is_image) refl
         (ap (λ (x : SystemState). x.pc) begins)
         (ap (λ (x : SystemState). x.root) begins ∙ sym (start_root H image (words_of entry.seals) is_image.rest))
@@ -85,7 +85,7 @@ module _ (H : List ℕ → List ℕ) (is_digest : (x : List ℕ) → IsDigest (H
         ap (option_and_then (λ (x : Entry). entry_pair H B x image)) is_entry
         ∙ ap₂ (λ (o : Option SystemState) (p : Option SpanClaim). option_or (first_pair H o image) (option_or (seals_pair H (Some (start image (words_of entry.seals))) entry.seals) (claim_pair H B p entry.links))) is_first chain
 
-    pub faithful_or_shown : (first : SystemState) → first_at H B e ≡ Some first → state_digest H first ≡ image_id H image → Faithful H B e image ⊎ Exhibits H (compared H B image) (audit_pair H B e image)
+    pub faithful_or_shown : (first : SystemState) → first_at H B e ≡ Some first → state_digest H first ≡ image_id H image → Faithful H B e image ⊎ Exhibits H (compared_strings H B image) (audit_pair H B e image)
     faithful_or_shown first is_first same_id =
         let (entry, is_entry, of_entry) = first_entry H B e first is_first in
         let ok = accepted_at H B B e entry accepts.entries is_entry in
@@ -99,9 +99,9 @@ module _ (H : List ℕ → List ℕ) (is_digest : (x : List ℕ) → IsDigest (H
         let one : Option Pair = differ (state_string H claim.before) (image_string H image) in
         let two : Option Pair = seals_pair H (Some (start image (words_of entry.seals))) entry.seals in
         let three : Option Pair = calls_pair H B claim.calls entry.links in
-        let whole : Exhibits H (compared H B image) (option_or one (option_or two three)) → Exhibits H (compared H B image) (audit_pair H B e image) =
-        λ x. subst (λ (o : Option Pair). Exhibits H (compared H B image) o) (sym (entry_is entry claim.before claim is_entry begin chain)) x in
-        elim (same_or_shown H (compared H B image) (state_string H claim.before) (image_string H image) (before_in H B image e entry is_entry claim chain) (image_in H B image) same_digest) [
+        let whole : Exhibits H (compared_strings H B image) (option_or one (option_or two three)) → Exhibits H (compared_strings H B image) (audit_pair H B e image) =
+        λ x. subst (λ (o : Option Pair). Exhibits H (compared_strings H B image) o) (sym (entry_is entry claim.before claim is_entry begin chain)) x in
+        elim (same_or_shown H (compared_strings H B image) (state_string H claim.before) (image_string H image) (before_in H B image e entry is_entry claim chain) (image_in H B image) same_digest) [
           | inl same ↦
               let none_first : one ≡ None = differ_same (state_string H claim.before) (image_string H image) same in
               let small : image.entry < 2 ^ 32 = let below = is_image.below in omega (arith, below) in
@@ -117,12 +117,12 @@ module _ (H : List ℕ → List ℕ) (is_digest : (x : List ℕ) → IsDigest (H
                     is_claim = chain;
                     linked = linked;
                   })
-                  | inr x ↦ inr (whole (then_shown H (compared H B image) one (option_or two three) none_first
-                      (then_shown H (compared H B image) two three (run_unpaired entry agree) x)))
+                  | inr x ↦ inr (whole (then_shown H (compared_strings H B image) one (option_or two three) none_first
+                      (then_shown H (compared_strings H B image) two three (run_unpaired entry agree) x)))
                 ]
-                | inr x ↦ inr (whole (then_shown H (compared H B image) one (option_or two three) none_first (first_shown H (compared H B image) two three x)))
+                | inr x ↦ inr (whole (then_shown H (compared_strings H B image) one (option_or two three) none_first (first_shown H (compared_strings H B image) two three x)))
               ]
-          | inr x ↦ inr (whole (first_shown H (compared H B image) one (option_or two three) x))
+          | inr x ↦ inr (whole (first_shown H (compared_strings H B image) one (option_or two three) x))
         ]
 
     -- an entry that agrees shows no pair
@@ -133,7 +133,7 @@ module _ (H : List ℕ → List ℕ) (is_digest : (x : List ℕ) → IsDigest (H
         (both_none (seals_pair H (Some (start image (words_of f.entry.seals))) f.entry.seals) (calls_pair H B f.claim.calls f.entry.links) (run_unpaired f.entry f.seals) (all_unpaired H B f.claim.calls f.entry.links f.linked))
 
   -- with what is said of the strings of a collision
-  is_collision : (B : Bundle) (image : Image) → IsBundle B → IsImage image → (o : Option Pair) → (x : Exhibits H (compared H B image) o) → IsCollision H (compared H B image) x.pair.left x.pair.right
+  is_collision : (B : Bundle) (image : Image) → IsBundle B → IsImage image → (o : Option Pair) → (x : Exhibits H (compared_strings H B image) o) → IsCollision H (compared_strings H B image) x.pair.left x.pair.right
   is_collision B image good is_image o x = record {
     in_left = x.in_left;
     in_right = x.in_right;
@@ -143,7 +143,7 @@ module _ (H : List ℕ → List ℕ) (is_digest : (x : List ℕ) → IsDigest (H
     same_digest = x.same_digest;
   }
 
-  collides : (B : Bundle) (image : Image) (pair : Pair) → IsCollision H (compared H B image) pair.left pair.right → Collides H (hashed H B image)
+  collides : (B : Bundle) (image : Image) (pair : Pair) → IsCollision H (compared_strings H B image) pair.left pair.right → Collides H (hashed_strings H B image)
   collides B image pair c = record {
     left = pair.left;
     right = pair.right;
@@ -177,6 +177,6 @@ module _ (H : List ℕ → List ℕ) (is_digest : (x : List ℕ) → IsDigest (H
         ),
         λ pair found. elim both [
           | inl f ↦ absurd (none-some pair (sym (faithful_unpaired B id e image good is_image accepts f) ∙ found))
-          | inr x ↦ subst (λ (p : Pair). IsCollision H (compared H B image) p.left p.right) (same_Some x.pair pair (sym x.is ∙ found)) (is_collision B image good is_image (audit_pair H B e image) x)
+          | inr x ↦ subst (λ (p : Pair). IsCollision H (compared_strings H B image) p.left p.right) (same_Some x.pair pair (sym x.is ∙ found)) (is_collision B image good is_image (audit_pair H B e image) x)
         ],
       )

@@ -14,12 +14,13 @@ use Rattle.receipt_types.specs.Seals.{Seal, words_of}
 use Rattle.lift_join.specs.Joins.{chain_of}
 use Rattle.receipt_types.specs.Bundles.{Entry, Bundle, item}
 use Rattle.check_core.specs.Entries.{first_of, claim_in}
+use Rattle.part_tree.specs.declared.sizes.TheConstants.{HEIGHT}
 
 -- the first of the seals' trees that isn't the run's, the run being in this state where the seals begin
 abbrev pub seals_pair : (List ℕ → List ℕ) → Option State → List Seal → Option Pair
 seals_pair H o [] = None
 seals_pair H None (seal ∷ seals) = None
-seals_pair H (Some s) (seal ∷ seals) = option_or (split_of H (page_of (full s)) 18 0 seal.tree) (seals_pair H (after s seal.steps) seals)
+seals_pair H (Some s) (seal ∷ seals) = option_or (split_of H (page_of (full s)) HEIGHT 0 seal.tree) (seals_pair H (after s seal.steps) seals)
 
 -- a linked entry's claim, and its output
 abbrev pub link_pair : (List ℕ → List ℕ) → Option SpanClaim → AssumeCall → Option Pair

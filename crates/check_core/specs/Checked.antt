@@ -5,12 +5,14 @@ use Rattle.std.proofs.Common.{refl}
 use Rattle.claim_types.specs.States.{state_digest}
 use Rattle.receipt_types.specs.Bundles.{Bundle, entry_code}
 use Rattle.receipt_types.specs.Limits.{KeepsLimits}
+use Rattle.receipt_types.specs.Spelling.{Spells}
+use Rattle.receipt_codec.specs.Reading.{BeginsVersion}
 use Rattle.check_core.specs.declared.stop.CheckStop.{CheckStop}
-use Rattle.check_core.specs.declared.stop.CheckStop.TheVariants.{WrongImage, Memory}
+use Rattle.check_core.specs.declared.stop.CheckStop.TheVariants.{Malformed, Version, WrongImage, Memory}
 use Rattle.check_core.specs.Entries.{first_at}
 use Rattle.check_core.specs.Judgement.{Accepts}
 use Rattle.check_core.specs.Reports.{Report, report_code, report_of}
-use Rattle.check_core.specs.Checking.{Stops}
+use Rattle.check_core.specs.Checking.{StopsCheck, IsMalformed}
 
 -- a bundle and its report
 pub record Checked : Type 0 where
@@ -38,4 +40,17 @@ IsOwnId H B id = option_map (state_digest H) (first_at H B 0) ≡ Some id
 abbrev pub StopsItself : (List ℕ → List ℕ) → Bundle → CheckStop → Type 0
 StopsItself H B Memory = Unit {0}
 StopsItself H B (WrongImage found) = ⊥
-StopsItself H B stop = (id : List ℕ) × IsOwnId H B id × Stops H B id stop
+StopsItself H B stop = (id : List ℕ) × IsOwnId H B id × StopsCheck H B id stop
+
+-- bytes spell a bundle that is refused so under the digest of its own first state
+pub record IsStoppedItself (H : List ℕ → List ℕ) (bytes : List ℕ) (stop : CheckStop) : Type 0 where
+  pub bundle : Bundle
+  pub spelled : Spells bundle bytes
+  pub stops : StopsItself H bundle stop
+
+-- a refusal of bytes; the causes exclude one another, but for want of memory
+abbrev pub RefusesItself : (List ℕ → List ℕ) → List ℕ → CheckStop → Type 0
+RefusesItself H bytes Malformed = IsMalformed bytes
+RefusesItself H bytes (Version version) = BeginsVersion version bytes
+RefusesItself H bytes Memory = Unit {0}
+RefusesItself H bytes stop = IsStoppedItself H bytes stop

@@ -5,11 +5,11 @@ use Rattle.claim_types.specs.Claims.{SpanClaim}
 use Rattle.receipt_types.specs.Bundles.{Entry, Bundle, item}
 use Rattle.receipt_types.specs.Spelling.{Spells}
 use Rattle.receipt_codec.specs.Reading.{BeginsVersion}
-use Rattle.receipt_codec.specs.declared.stop.BundleStop.{BundleStop}
-use Rattle.receipt_codec.specs.declared.stop.BundleStop.TheVariants as Read
+use Rattle.receipt_codec.specs.declared.stop.ReadStop.{ReadStop}
+use Rattle.receipt_codec.specs.declared.stop.ReadStop.TheVariants as Read
 use Rattle.seal_replay.specs.declared.stop.ReplayStop.{ReplayStop}
 use Rattle.seal_replay.specs.declared.stop.ReplayStop.TheVariants as Replay
-use Rattle.lift_join.specs.Joins.{joined, chain_of}
+use Rattle.lift_join.specs.Joins.{joint_claim, chain_of}
 use Rattle.check_core.specs.declared.stop.CheckStop.{CheckStop}
 use Rattle.check_core.specs.declared.stop.CheckStop.TheVariants.{Malformed, Version, Broken, Memory}
 use Rattle.check_core.specs.Judgement.{Accepts, first_stop}
@@ -18,11 +18,11 @@ use Rattle.check_core.specs.Entries.{digest_in}
 
 -- ---- the answers to a bundle
 -- a refusal of a bundle: this is its first stop, or there was no memory
-abbrev pub Stops : (List ℕ → List ℕ) → Bundle → List ℕ → CheckStop → Type 0
-Stops H B id Malformed = ⊥
-Stops H B id (Version version) = ⊥
-Stops H B id Memory = ⊤
-Stops H B id stop = first_stop H B id ≡ Some stop
+abbrev pub StopsCheck : (List ℕ → List ℕ) → Bundle → List ℕ → CheckStop → Type 0
+StopsCheck H B id Malformed = ⊥
+StopsCheck H B id (Version version) = ⊥
+StopsCheck H B id Memory = ⊤
+StopsCheck H B id stop = first_stop H B id ≡ Some stop
 
 -- ---- the answers to bytes
 -- they spell a bundle that is accepted under the id, and this is its report
@@ -38,20 +38,20 @@ pub record IsMalformed (bytes : List ℕ) : Type 0 where
   pub no_version : (version : ℕ) → BeginsVersion version bytes → ⊥
 
 -- they spell a bundle that is refused so
-pub record IsStopped (H : List ℕ → List ℕ) (id bytes : List ℕ) (stop : CheckStop) : Type 0 where
+pub record IsRefusedBundle (H : List ℕ → List ℕ) (id bytes : List ℕ) (stop : CheckStop) : Type 0 where
   pub bundle : Bundle
   pub spelled : Spells bundle bytes
-  pub stops : Stops H bundle id stop
+  pub stops : StopsCheck H bundle id stop
 
 -- a refusal; the causes exclude one another, but for want of memory
 abbrev pub Refuses : (List ℕ → List ℕ) → List ℕ → List ℕ → CheckStop → Type 0
 Refuses H id bytes Malformed = IsMalformed bytes
 Refuses H id bytes (Version version) = BeginsVersion version bytes
 Refuses H id bytes Memory = ⊤
-Refuses H id bytes stop = IsStopped H id bytes stop
+Refuses H id bytes stop = IsRefusedBundle H id bytes stop
 
 -- ---- parts of the check
-abbrev pub stop_of_bytes : BundleStop → CheckStop
+abbrev pub stop_of_bytes : ReadStop → CheckStop
 stop_of_bytes Read.Malformed = Malformed
 stop_of_bytes (Read.Version version) = Version version
 stop_of_bytes Read.Memory = Memory
@@ -77,4 +77,4 @@ TellDigests H B reports = (e : ℕ) → digest_in H B e ≡ reported_digest (ite
 -- a claim after the claim of what is before it, if there is any
 abbrev pub join_next : Option SpanClaim → SpanClaim → SpanClaim
 join_next None next = next
-join_next (Some claim) next = joined claim next
+join_next (Some claim) next = joint_claim claim next

@@ -16,6 +16,7 @@ use Rattle.receipt_types.specs.Seals.{Seal}
 use Rattle.seal_replay.specs.Claiming.{put_tree}
 use Rattle.lift_join.specs.Joins.{chain_of}
 use Rattle.receipt_types.specs.Bundles.{Entry, Bundle}
+use Rattle.part_tree.specs.declared.sizes.TheConstants.{HEIGHT}
 
 -- the tree after a seal that ends in Split
 abbrev pub end_strings : (List ℕ → List ℕ) → Seal → Option (Exit × State) → List (List ℕ)
@@ -48,8 +49,8 @@ tag_names = state_tag ∷ output_tag ∷ assumptions_tag ∷ claim_tag ∷ []
 abbrev pub strings_of : (List ℕ → List ℕ) → Bundle → List (List ℕ)
 strings_of H B = flat_map (entry_strings H) B ++ tag_names
 
-abbrev pub hashed : (List ℕ → List ℕ) → Bundle → Image → List (List ℕ)
-hashed H B image = strings_of H B ++ (tree_strings H (page_of image.memory) 18 0 ++ (image_string H image ∷ []))
+abbrev pub hashed_strings : (List ℕ → List ℕ) → Bundle → Image → List (List ℕ)
+hashed_strings H B image = strings_of H B ++ (tree_strings H (page_of image.memory) HEIGHT 0 ++ (image_string H image ∷ []))
 
 -- ---- of these the strings that an audit compares
 abbrev pub compared_oks : (List ℕ → List ℕ) → AssumeCall → List (List ℕ)
@@ -62,5 +63,5 @@ compared_claim H (Some claim) = state_string H claim.before ∷ resolved_output 
 abbrev pub compared_entry : (List ℕ → List ℕ) → Entry → List (List ℕ)
 compared_entry H entry = flat_map (seal_strings H) entry.seals ++ compared_claim H (chain_of H entry.seals)
 
-abbrev pub compared : (List ℕ → List ℕ) → Bundle → Image → List (List ℕ)
-compared H B image = flat_map (compared_entry H) B ++ (tree_strings H (page_of image.memory) 18 0 ++ (image_string H image ∷ []))
+abbrev pub compared_strings : (List ℕ → List ℕ) → Bundle → Image → List (List ℕ)
+compared_strings H B image = flat_map (compared_entry H) B ++ (tree_strings H (page_of image.memory) HEIGHT 0 ++ (image_string H image ∷ []))

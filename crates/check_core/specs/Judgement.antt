@@ -28,14 +28,14 @@ Answered H B (call ∷ calls) [] = ⊥
 Answered H B (call ∷ calls) (link ∷ links) = (ok_digest H call ≡ digest_in H B link) × Answered H B calls links
 
 -- the entry's seals are a chain that halts
-pub record Halts (H : List ℕ → List ℕ) (seals : List Seal) : Type 0 where
+pub record ChainHalts (H : List ℕ → List ℕ) (seals : List Seal) : Type 0 where
   pub claim : SpanClaim
   pub code : ℕ
   pub chain : chain_of H seals ≡ Some claim
   pub exit : claim.exit ≡ HaltedWith code
 
 pub record EntryAccepted (H : List ℕ → List ℕ) (B : Bundle) (entry : Entry) : Type 0 where
-  pub halts : Halts H entry.seals
+  pub halts : ChainHalts H entry.seals
   pub answered : Answered H B halts.claim.calls entry.links
 
 abbrev pub AllAccepted : (List ℕ → List ℕ) → Bundle → List Entry → Type 0

@@ -8,7 +8,7 @@ use Rattle.claim_types.specs.States.{state_digest, image_id}
 use Rattle.receipt_types.specs.Bundles.{Bundle, IsBundle}
 use Rattle.check_core.specs.Entries.{first_at}
 use Rattle.check_core.specs.Judgement.{Accepts, first_stop}
-use Rattle.check_core.specs.Hashed.{hashed, compared}
+use Rattle.check_core.specs.Hashed.{hashed_strings, compared_strings}
 use Rattle.part_tree.specs.Splits.{Pair}
 use Rattle.check_core.specs.Auditing.{audit_pair}
 use Rattle.digest_core.specs.Collisions.{IsCollision, Collides}
@@ -22,17 +22,17 @@ FaithfulVouches H = (B : Bundle) (id : List ℕ) (e : ℕ) (image : Image) → I
 abbrev pub Headline : (List ℕ → List ℕ) → Type 0
 Headline H = (B : Bundle) (id : List ℕ) (e : ℕ) (first : SystemState) (image : Image) → IsBundle B → IsImage image → Accepts H B id
     → first_at H B e ≡ Some first → state_digest H first ≡ image_id H image
-    → Vouches H B e image ⊎ Collides H (hashed H B image)
+    → Vouches H B e image ⊎ Collides H (hashed_strings H B image)
 
 -- all that is hashed for a bundle and an image are bytes
 abbrev pub HashedAreBytes : (List ℕ → List ℕ) → Type 0
-HashedAreBytes H = (B : Bundle) (image : Image) (x : List ℕ) → IsBundle B → IsImage image → Contains (hashed H B image) x → IsBytes x
+HashedAreBytes H = (B : Bundle) (image : Image) (x : List ℕ) → IsBundle B → IsImage image → Contains (hashed_strings H B image) x → IsBytes x
 
 -- what stands behind the headline, and what an audit exhibits: the entry agrees with the image's uncut run, or two hashed strings collide
 abbrev pub FaithfulOrCollides : (List ℕ → List ℕ) → Type 0
 FaithfulOrCollides H = (B : Bundle) (id : List ℕ) (e : ℕ) (first : SystemState) (image : Image) → IsBundle B → IsImage image → Accepts H B id
     → first_at H B e ≡ Some first → state_digest H first ≡ image_id H image
-    → Faithful H B e image ⊎ Collides H (hashed H B image)
+    → Faithful H B e image ⊎ Collides H (hashed_strings H B image)
 
 -- a bundle is accepted exactly where nothing stops it
 abbrev pub AcceptedUnstopped : (List ℕ → List ℕ) → Type 0
@@ -42,14 +42,14 @@ AcceptedUnstopped H = (B : Bundle) (id : List ℕ) → IsBundle B → (first_sto
 abbrev pub CallsHold : (List ℕ → List ℕ) → Type 0
 CallsHold H = (B : Bundle) (id : List ℕ) (call : AssumeCall) (link : ℕ) (image : Image) → IsBundle B → IsImage image → Accepts H B id
     → LinkedTo H B call link → image_id H image ≡ call.image
-    → VouchesFor H B link image call ⊎ Collides H (hashed H B image)
+    → VouchesFor H B link image call ⊎ Collides H (hashed_strings H B image)
 
 -- the audit is exact: it finds no pair exactly where the entry agrees with the image's uncut run, and each pair that it finds is a collision
 abbrev pub AuditIsExact : (List ℕ → List ℕ) → Type 0
 AuditIsExact H = (B : Bundle) (id : List ℕ) (e : ℕ) (first : SystemState) (image : Image) → IsBundle B → IsImage image → Accepts H B id
     → first_at H B e ≡ Some first → state_digest H first ≡ image_id H image
-    → ((audit_pair H B e image ≡ None) ↔ Faithful H B e image) × ((pair : Pair) → audit_pair H B e image ≡ Some pair → IsCollision H (compared H B image) pair.left pair.right)
+    → ((audit_pair H B e image ≡ None) ↔ Faithful H B e image) × ((pair : Pair) → audit_pair H B e image ≡ Some pair → IsCollision H (compared_strings H B image) pair.left pair.right)
 
 -- what an audit compares is among what is hashed
 abbrev pub ComparedAreHashed : (List ℕ → List ℕ) → Type 0
-ComparedAreHashed H = (B : Bundle) (image : Image) (x : List ℕ) → Contains (compared H B image) x → Contains (hashed H B image) x
+ComparedAreHashed H = (B : Bundle) (image : Image) (x : List ℕ) → Contains (compared_strings H B image) x → Contains (hashed_strings H B image) x

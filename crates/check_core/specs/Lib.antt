@@ -7,3 +7,4 @@ pub mod Vouching
 pub mod Auditing
 pub mod Laws
 pub mod Checked
+pub mod Text

@@ -14,6 +14,7 @@ use Rattle.receipt_types.specs.Seals.{Seal, words_of, steps_of}
 use Rattle.lift_join.specs.Joins.{chain_of}
 use Rattle.receipt_types.specs.Bundles.{Entry, Bundle, item}
 use Rattle.check_core.specs.Entries.{first_of, claim_in}
+use Rattle.part_tree.specs.declared.sizes.TheConstants.{HEIGHT}
 
 -- the linked entry begins with the image, halts with 0 and has the journal that the call names
 pub record LinkedTo (H : List ℕ → List ℕ) (B : Bundle) (call : AssumeCall) (link : ℕ) : Type 0 where
@@ -52,7 +53,7 @@ pub record SealAgrees (H : List ℕ → List ℕ) (r : State) (b : ℕ) (seal : 
   pub state : State
   pub reached : after r b ≡ Some state
   pub pc : seal.pc ≡ state.pc
-  pub agrees : Agree H (page_of (full state)) 18 0 seal.tree
+  pub agrees : Agree H (page_of (full state)) HEIGHT 0 seal.tree
 
 abbrev pub SealsAgree : (List ℕ → List ℕ) → State → ℕ → List Seal → Type 0
 SealsAgree H r b [] = Unit {0}

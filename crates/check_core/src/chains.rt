@@ -7,6 +7,7 @@ ghost use Rattle.lift_join.specs.Joins.{chain_of};
 ghost use Rattle.check_core.specs.declared.stop.CheckStop.TheVariants.{Memory};
 ghost use Rattle.check_core.specs.Judgement.{joint_stop, exit_stop, seal_stop, seals_stop, entries_stop};
 ghost use Rattle.check_core.specs.Checking.{AreClaims, broken_by, join_next};
+ghost use Rattle.receipt_types.specs.declared.sizes.TheConstants.{MOST_SEALS};
 
 use crate::stop::CheckStop;
 use claim_types::{Exit, SpanClaim, State};
@@ -45,7 +46,7 @@ fn chain_claim<D: Digester>(
     entry: &Entry,
 ) -> Result<SpanClaim, CheckStop>
     requires some { entry.now.seals ≢ [] }
-    requires few { length entry.now.seals ≤ 65535 }
+    requires few { length entry.now.seals ≤ MOST_SEALS }
     requires limits { AllSealLimits entry.now.seals }
     ensures unstopped { IfOk result (λ _. seals_stop D.digest_of number 0 None entry.now.seals ≡ None) }
     ensures chain { IfOk result (λ claim. chain_of D.digest_of entry.now.seals ≡ Some claim) }

@@ -1,17 +1,19 @@
 ghost use Rattle.std.specs.Prelude.{◌≡◌, IfOk, IfErr};
 ghost use Rattle.receipt_types.specs.Limits.{KeepsLimits};
-ghost use Rattle.check_core.specs.Checked.{IsChecked, StopsItself};
+ghost use Rattle.receipt_types.specs.Spelling.{Spells};
+ghost use Rattle.check_core.specs.Checked.{IsChecked, RefusesItself, StopsItself};
 
 use crate::judging::{check_bundle, first_id};
 use crate::report::Report;
 use crate::stop::CheckStop;
 use digest_core::Digester;
+use receipt_codec::read_bundle;
 use receipt_types::Bundle;
 use std::alloc::Global;
 use std::marker::{Model, PhantomData};
 
 /// A bundle that keeps the limits of a receipt and is accepted under the digest of its own first state, and its report.
-/// `new` alone makes one. Contracts see the bundle and the report.
+/// `new` and `read` alone make one. Contracts see the bundle and the report.
 #[derive(Drop)]
 pub struct Checked<D: Digester> {
     bundle: Bundle,
@@ -47,6 +49,17 @@ impl<D: Digester> Checked<D> {
             report,
             digester: PhantomData,
         })
+    }
+
+    /// Reads the bundle that a receipt's bytes, of version 1, spell, and checks it under the digest of its own first state. Each
+    /// stop but Memory comes exactly where it is the first; WrongImage doesn't come.
+    pub fn read(alloc: Global, bytes: &[u8]) -> Result<Checked<D>, CheckStop>
+        ensures spells { IfOk result (λ checked. Spells checked.bundle bytes.now) }
+        ensures checked { IfOk result (λ checked. IsChecked D.digest_of checked) }
+        ensures stop { IfErr result (λ stop. RefusesItself D.digest_of bytes.now stop) }
+    {
+        let bundle = read_bundle(alloc, bytes)?;
+        Checked::new(alloc, bundle)
     }
 
     /// The bundle. It takes no memory.

@@ -5,7 +5,7 @@ ghost use Rattle.receipt_types.specs.Limits.{KeepsLimits};
 ghost use Rattle.check_core.specs.Entries.{first_at};
 ghost use Rattle.check_core.specs.Judgement.{Accepts};
 ghost use Rattle.check_core.specs.Reports.{report_of};
-ghost use Rattle.check_core.specs.Checking.{Stops};
+ghost use Rattle.check_core.specs.Checking.{StopsCheck};
 
 use crate::chains::chain_claims;
 use crate::linking::test_links;
@@ -45,7 +45,7 @@ pub fn check_bundle<D: Digester>(
     requires { KeepsLimits bundle.now }
     ensures accepted { IfOk result (λ _. Accepts D.digest_of bundle.now id.now) }
     ensures report { IfOk result (λ report. report_of D.digest_of bundle.now ≡ Some report) }
-    ensures stop { IfErr result (λ stop. Stops D.digest_of bundle.now id.now stop) }
+    ensures stop { IfErr result (λ stop. StopsCheck D.digest_of bundle.now id.now stop) }
 {
     let found = first_id::<D>(bundle);
     if found != *id {

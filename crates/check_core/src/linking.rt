@@ -5,6 +5,7 @@ ghost use Rattle.receipt_types.specs.Limits.{KeepsLimits};
 ghost use Rattle.check_core.specs.Judgement.{calls_stop, links_stop, all_links_stop};
 ghost use Rattle.check_core.specs.Reports as spec;
 ghost use Rattle.check_core.specs.Checking.{AreClaims, TellDigests};
+ghost use Rattle.receipt_types.specs.declared.sizes.TheConstants.{MOST_LINKS};
 
 use crate::report::EntryClaim;
 use crate::stop::CheckStop;
@@ -40,7 +41,7 @@ fn test_entry<D: Digester>(
     claim: &SpanClaim,
     reports: &[EntryClaim],
 ) -> Result<(), CheckStop>
-    requires few { length entry.now.links ≤ 16777216 }
+    requires few { length entry.now.links ≤ MOST_LINKS }
     requires links { All (λ link. link < length reports.now) entry.now.links }
     ensures ok { IfOk result (λ _. (B : plain.Bundle) → TellDigests D.digest_of B reports.now → links_stop D.digest_of B number (Some claim.now) entry.now.links ≡ None) }
     ensures stop { IfErr result (λ stop. (B : plain.Bundle) → TellDigests D.digest_of B reports.now → links_stop D.digest_of B number (Some claim.now) entry.now.links ≡ Some stop) }
@@ -65,7 +66,7 @@ fn test_calls<D: Digester>(
     reports: &[EntryClaim],
 ) -> Result<(), CheckStop>
     requires same { length calls.now ≡ length links.now }
-    requires few { length links.now ≤ 16777216 }
+    requires few { length links.now ≤ MOST_LINKS }
     requires links { All (λ link. link < length reports.now) links.now }
     ensures ok { IfOk result (λ _. (B : plain.Bundle) → TellDigests D.digest_of B reports.now → calls_stop D.digest_of B number 0 calls.now links.now ≡ None) }
     ensures stop { IfErr result (λ stop. (B : plain.Bundle) → TellDigests D.digest_of B reports.now → calls_stop D.digest_of B number 0 calls.now links.now ≡ Some stop) }

@@ -5,6 +5,7 @@ ghost use Rattle.receipt_types.specs.Limits.{AllSealLimits, KeepsLimits};
 ghost use Rattle.receipt_types.specs.Seals as plain;
 ghost use Rattle.check_core.specs.Reports as spec;
 ghost use Rattle.check_core.specs.Checking.{AreClaims};
+ghost use Rattle.receipt_types.specs.declared.sizes.TheConstants.{MOST_SEALS};
 
 use crate::report::{ClaimList, EntryClaim};
 use claim_types::{Exit, SpanClaim, claim_digest, conditional_digest, state_digest};
@@ -37,7 +38,7 @@ pub fn entry_report<D: Digester>(
     entry: &Entry,
     claim: &SpanClaim,
 ) -> Result<EntryClaim, AllocError>
-    requires few { length entry.now.seals ≤ 65535 }
+    requires few { length entry.now.seals ≤ MOST_SEALS }
     requires limits { AllSealLimits entry.now.seals }
     ensures { IfOk result (λ report. report ≡ spec.entry_report D.digest_of entry.now claim.now) }
 {
@@ -69,7 +70,7 @@ fn code_of(exit: Exit) -> u32
 
 // The sum of the steps of seals.
 fn steps_of(seals: &[Arc<Seal, Global>]) -> u64
-    requires few { length seals.now ≤ 65535 }
+    requires few { length seals.now ≤ MOST_SEALS }
     requires limits { AllSealLimits (map (λ seal. arc_value seal) seals.now) }
     ensures { result ≡ plain.steps_of (map (λ seal. arc_value seal) seals.now) }
 {

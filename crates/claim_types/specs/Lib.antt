@@ -1,3 +1,4 @@
 pub mod States
 pub mod Claims
 pub mod Codes
+pub mod Text

@@ -1,3 +1,8 @@
-pub mod Ended
 pub mod Text
+pub mod Telling
+pub mod Naming
+pub mod Items
+pub mod Commands
+pub mod OneCheck
+pub mod OneProve
 pub mod Public

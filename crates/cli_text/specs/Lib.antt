@@ -1,7 +1,12 @@
 pub mod Numbers
 pub mod Lines
-pub mod BadElf
-pub mod Faults
+pub mod Files
 pub mod Reports
-pub mod Ends
+pub mod Runs
 pub mod Refusals
+pub mod Usages
+pub mod Name
+pub mod Told
+pub mod Values
+pub mod CheckWords
+pub mod ProveWords

@@ -1,17 +1,16 @@
--- Lines that more than one program prints. A line ends with one line feed; counts are decimal, digests and bytes lower-case hexadecimal.
-use Rattle.std.specs.Prelude.{ℕ, List, [], ◌∷◌, ◌++◌, codes}
+-- A line, and what is said of a journal in several of them.
+use Rattle.std.specs.Prelude.{ℕ, List, [], ◌∷◌, ◌++◌, length, codes, decimal}
 use Rattle.hex.specs.Hex.{encode_lower}
 
+-- a text and one line feed
 abbrev pub line : List ℕ → List ℕ
 line text = text ++ 10 ∷ []
 
-abbrev pub no_file_lines : List ℕ → List ℕ
-no_file_lines name = line (codes "no-file " ++ name)
-
-abbrev pub too_long_lines : List ℕ → List ℕ
-too_long_lines name = line (codes "too-long " ++ name)
-
--- the bytes of a journal, where it isn't empty
+-- a space and the bytes of a journal, where it isn't empty
 abbrev pub journal_tail : List ℕ → List ℕ
 journal_tail [] = []
 journal_tail (byte ∷ bytes) = codes " " ++ encode_lower (byte ∷ bytes)
+
+-- its length, and its bytes
+abbrev pub journal_line : List ℕ → List ℕ
+journal_line journal = line (codes "journal " ++ decimal (length journal) ++ journal_tail journal)

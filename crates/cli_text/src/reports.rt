@@ -1,23 +1,54 @@
 //! The lines of a report.
 ghost use Rattle.std.specs.Prelude.{◌≡◌, string_bytes, sum_by, IfOk};
-ghost use Rattle.cli_text.specs.Reports.{claims_lines, counts_lines, report_lines, valid_lines, proved_lines};
+ghost use Rattle.cli_text.specs.Reports.{claims_lines, counts_lines, report_lines, valid_lines, proved_lines, generated_lines};
 
-use crate::hexadecimal::digits;
 use crate::journals::journal_text;
+use crate::texts::bytes_of;
+use byte_cursor::ByteList;
 use check_core::{EntryClaim, Report};
 use std::alloc::{AllocError, Global};
 
 /// The lines of the answer valid, for the report of a bundle. An AllocError is want of memory.
-pub fn valid_text(alloc: Global, report: &Report) -> Result<String, AllocError>
-    ensures { IfOk result (λ text. string_bytes text ≡ valid_lines report.now) }
+pub fn valid_text(alloc: Global, report: &Report) -> Result<ByteList, AllocError>
+    ensures { IfOk result (λ text. text.items ≡ valid_lines report.now) }
 {
     let told = report_text(alloc, report)?;
-    format!(in alloc; "valid\n{told}")
+    let text = format!(in alloc; "valid\n{told}")?;
+    bytes_of(alloc, text.as_str())
 }
 
 /// The lines of a receipt that was made, for the report of its bundle and the number of its bytes. An AllocError is want of
 /// memory.
-pub fn proved_text(alloc: Global, report: &Report, bytes: u64) -> Result<String, AllocError>
+pub fn proved_text(alloc: Global, report: &Report, bytes: u64) -> Result<ByteList, AllocError>
+    ensures { IfOk result (λ text. text.items ≡ proved_lines report.now bytes) }
+{
+    let text = made_text(alloc, report, bytes)?;
+    bytes_of(alloc, text.as_str())
+}
+
+/// The lines of a receipt that was made of a generated guest: the numbers that generate it, the bytes of its ELF file, the
+/// words of its input, and what its run costs, before those of the receipt. An AllocError is want of memory.
+pub fn generate_text(
+    alloc: Global,
+    number: u64,
+    size: u32,
+    elf: u64,
+    words: u64,
+    cycles: u64,
+    report: &Report,
+    bytes: u64,
+) -> Result<ByteList, AllocError>
+    ensures { IfOk result (λ text. text.items ≡ generated_lines number size elf words cycles report.now bytes) }
+{
+    let made = made_text(alloc, report, bytes)?;
+    let text = format!(in alloc;
+        "generated {number} {size}\nelf {elf}\ninput {words}\ncycles {cycles}\n{made}"
+    )?;
+    bytes_of(alloc, text.as_str())
+}
+
+// The lines of a receipt that was made, of so many bytes.
+fn made_text(alloc: Global, report: &Report, bytes: u64) -> Result<String, AllocError>
     ensures { IfOk result (λ text. string_bytes text ≡ proved_lines report.now bytes) }
 {
     let told = report_text(alloc, report)?;
@@ -43,8 +74,8 @@ fn claims_text(alloc: Global, journal: &[u8], first: &EntryClaim) -> Result<Stri
 {
     let code = first.exit;
     let told = journal_text(alloc, journal)?;
-    let claim = digits(alloc, &first.claim)?;
-    let conditional = digits(alloc, &first.conditional)?;
+    let claim = first.claim;
+    let conditional = first.conditional;
     format!(in alloc; "exit {code}\njournal {told}\nclaim {claim}\nconditional {conditional}\n")
 }
 

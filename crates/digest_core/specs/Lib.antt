@@ -3,3 +3,4 @@ pub mod Collisions
 pub mod Sha
 pub mod Weak
 pub mod Tagged
+pub mod Text

@@ -1,6 +1,7 @@
 ghost use Rattle.std.specs.Prelude.{◌≡◌, length};
 
 use std::marker::Model;
+use std::{fmt, str};
 
 /// A digest, of 32 bytes. Contracts see the list of its bytes.
 #[derive(Clone, Copy, Debug, PartialEq, Eq)]
@@ -38,5 +39,24 @@ impl Digest {
         ensures digest { IsDigest self.now }
     {
         &self.0
+    }
+}
+
+/// 64 lower-case hexadecimal digits, in the order of the bytes.
+impl fmt::Display for Digest {
+    ghost use Rattle.std.specs.Prelude.{Some};
+    ghost use Rattle.digest_core.specs.Text.{digest_text};
+
+    ghost output = { λ digest. Some (digest_text digest) };
+
+    fn fmt<W: fmt::Write>(&self, f: &mut fmt::Formatter<W>) -> fmt::Result {
+        let mut digits = [0; 64];
+        let Ok(()) = hex::encode_to_slice(self.0.as_slice(), &mut digits) else {
+            unreachable!();
+        };
+        let Ok(text) = str::from_utf8(&digits) else {
+            unreachable!();
+        };
+        f.write_str(text)
     }
 }

@@ -12,7 +12,7 @@ use Rattle.elf_image.proofs.Tested.{fault_after, fault_within}
 
 -- ---- tests that stand one after the other
 -- where no test fails, the first passes and none of the others fails
-first_passes : (t : Test) (ts : List Test) → first_fault (t ∷ ts) ≡ None → (t.passes ≡ true) × (first_fault ts ≡ None)
+pub first_passes : (t : Test) (ts : List Test) → first_fault (t ∷ ts) ≡ None → (t.passes ≡ true) × (first_fault ts ≡ None)
 first_passes t ts h = go t.passes refl
   where
     go : (b : Bool) → t.passes ≡ b → (t.passes ≡ true) × (first_fault ts ≡ None)

@@ -4,3 +4,6 @@ pub mod Rooted
 pub mod Faults
 pub mod Disjoint
 pub mod Filled
+pub mod Unique
+pub mod Entries
+pub mod Public

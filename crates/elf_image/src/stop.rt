@@ -1,7 +1,9 @@
-ghost use Rattle.std.specs.Prelude.{◌≡◌};
+ghost use Rattle.std.specs.Prelude.{◌≡◌, Some};
 ghost use Rattle.elf_image.specs.declared.stop.ElfStop.TheVariants.{Memory};
+ghost use Rattle.elf_image.specs.Text.{elf_text};
 
 use std::alloc::AllocError;
+use std::fmt;
 
 /// Why a file isn't loaded: the first of fifteen tests that it fails, in this order, or want of memory. The fields are
 /// those of ELF32; a load header is a program header of type 1, and its four tests come before those of the next.
@@ -46,5 +48,31 @@ impl From<AllocError> for ElfStop {
 
     fn from(_error: AllocError) -> ElfStop {
         ElfStop::Memory
+    }
+}
+
+/// The number of the test, 1 to 15 in the order of the tests, and its text; nothing for want of memory.
+impl fmt::Display for ElfStop {
+    ghost output = { λ stop. Some (elf_text stop) };
+
+    fn fmt<W: fmt::Write>(&self, f: &mut fmt::Formatter<W>) -> fmt::Result {
+        f.write_str(match *self {
+            ElfStop::Short => "1 short",
+            ElfStop::Magic => "2 magic",
+            ElfStop::Class => "3 class",
+            ElfStop::Order => "4 order",
+            ElfStop::Version => "5 version",
+            ElfStop::FileType => "6 type",
+            ElfStop::Machine => "7 machine",
+            ElfStop::HeaderSize => "8 header-size",
+            ElfStop::TooManyHeaders => "9 too-many-headers",
+            ElfStop::HeaderRange => "10 header-range",
+            ElfStop::FileRange => "11 file-range",
+            ElfStop::SizeOrder => "12 size-order",
+            ElfStop::AddressRange => "13 address-range",
+            ElfStop::Overlap => "14 overlap",
+            ElfStop::Entry => "15 entry",
+            ElfStop::Memory => "",
+        })
     }
 }

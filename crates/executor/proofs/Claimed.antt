@@ -4,7 +4,7 @@ use Rattle.std.specs.Prelude.{Contains}
 use Rattle.page_core.specs.Memory.{Within}
 use Rattle.page_core.specs.Memories.{page_of}
 use Rattle.part_tree.specs.Tree.{root}
-use Rattle.part_tree.specs.Part.{Part, opened}
+use Rattle.part_tree.specs.Part.{Part, open_numbers}
 use Rattle.part_tree.proofs.Change.{root_of-agree}
 use Rattle.rv_step.specs.Machine.{State, foot_of, full}
 use Rattle.rv_step.specs.Runs.{after}
@@ -17,11 +17,11 @@ use Rattle.claim_types.specs.declared.claim.Exit.{Exit}
 use Rattle.claim_types.specs.declared.claim.Exit.TheVariants.{Split, Halted as HaltedWith}
 use Rattle.seal_replay.specs.Claiming.{claim_at}
 use Rattle.seal_replay.proofs.Endings.{claim_from}
-use Rattle.executor.specs.Proving.{seal_from, Ends, state_of}
+use Rattle.executor.specs.Proving.{seal_from, EndsAfter, system_state}
 use Rattle.executor.specs.Laws.{StretchesReplay, StretchesClaim}
 use Rattle.executor.proofs.Replays.{Replayed, agrees, feet, opens_registers, split_end, halt_end}
 
-replayed : (H : List ℕ → List ℕ) (s : State) (n : ℕ) (exit : Exit) (z : State) → IsReady s → 0 < n → Ends s n exit z → Replayed H s n exit z
+replayed : (H : List ℕ → List ℕ) (s : State) (n : ℕ) (exit : Exit) (z : State) → IsReady s → 0 < n → EndsAfter s n exit z → Replayed H s n exit z
 replayed H s n Split z ready some ends = split_end H s n ready some z ends
 replayed H s zero (HaltedWith code) z ready some ends = absurd (omega arith)
 replayed H s (suc m) (HaltedWith code) z ready some ends = halt_end H s m ready z code (ap (after s) (omega arith) ∙ ends.0) ends.1
@@ -43,12 +43,12 @@ module _ (H : List ℕ → List ℕ) (s : State) (n : ℕ) (ready : IsReady s) (
   abbrev tree : Part
   tree = (seal_from H s n).tree
 
-  before_is : (claim_at H (seal_from H s n) (Split, s)).before ≡ state_of H s
+  before_is : (claim_at H (seal_from H s n) (Split, s)).before ≡ system_state H s
   before_is = λ i. record { pc = s.pc; root = root_of-agree H (page_of (full s)) 18 0 tree (agrees H s n ready some) i }
 
   module _ (z : State) (goes : after s n ≡ Some z) (r : Replayed H s n Split z) where
-    split_after : (claim_at H (seal_from H s n) (Split, r.state)).after ≡ state_of H z
-    split_after = λ i. record { pc = sym r.like.pc i; root = new_root H (seal_from H s n) s z r.state (agrees H s n ready some) (opens_registers H s n ready some) (run_leaves (opened 0 tree) s n z goes (feet H s n ready some)) r.like.memory i }
+    split_after : (claim_at H (seal_from H s n) (Split, r.state)).after ≡ system_state H z
+    split_after = λ i. record { pc = sym r.like.pc i; root = new_root H (seal_from H s n) s z r.state (agrees H s n ready some) (opens_registers H s n ready some) (run_leaves (open_numbers 0 tree) s n z goes (feet H s n ready some)) r.like.memory i }
 
 pub stretches_claim : (H : List ℕ → List ℕ) → StretchesClaim H
 stretches_claim H s n Split z ready some ends =

@@ -3,7 +3,7 @@ use Rattle.std.proofs.Common.{◌≡◌, ◌⊎◌, inl, inr, ⊎_elim, ℕ, zer
 use Rattle.std.proofs.lemmas.Bool.Decides.{nat_tests, eqb_tells, leb_tells}
 use Rattle.page_core.specs.Memory.{ascending}
 use Rattle.rv_step.specs.Machine.{State, step_of, step_cost}
-use Rattle.rv_step.specs.Runs.{after, spent, touched, pages_at}
+use Rattle.rv_step.specs.Runs.{after, run_cost, run_pages, pages_at}
 use Rattle.rv_step.specs.Laws.{IsReady}
 use Rattle.std.proofs.lemmas.Bool.{cond_both, true≢false, and_parts, leb-true, le-leb}
 use Rattle.rv_step.proofs.Kept.{step_keeps}
@@ -11,7 +11,7 @@ use Rattle.std.proofs.lemmas.Option.{same_Some}
 use Rattle.rv_step.proofs.Runs.{step_back, run_keeps, after-add, spent_next}
 use Rattle.flat_machine.proofs.RunFeet.{some_cost}
 use Rattle.receipt_types.specs.Bundles.{item}
-use Rattle.executor.specs.Segments.{Limits, is_fault, is_done, is_done_at, is_nth_done, greatest, done_in, fits, longest, segments, total}
+use Rattle.executor.specs.Segments.{Limits, is_fault, is_done, is_done_at, is_nth_done, greatest, done_in, segment_fits, longest, segments, total}
 use Rattle.executor.specs.Proving.{seal_from, seals_from}
 use Rattle.executor.specs.Laws.{AreLengths}
 use Rattle.executor.proofs.Ordered.{ascending_grows}
@@ -31,15 +31,15 @@ pub run_ready : (s : State) (n : ℕ) (t : State) → IsReady s → after s n �
 run_ready s n t = run_keeps IsReady (λ u v e. (step_keeps u v e).ready) s n t
 
 -- with more steps no less is spent
-pub spent_grows : (s : State) (k n : ℕ) → k ≤ n → spent s k ≤ spent s n
-unfolding spent
-spent_grows s k zero low = let none : k ≡ 0 = omega arith in let e : spent s k ≡ spent s zero = ap (spent s) none in omega (arith, e)
+pub spent_grows : (s : State) (k n : ℕ) → k ≤ n → run_cost s k ≤ run_cost s n
+unfolding run_cost
+spent_grows s k zero low = let none : k ≡ 0 = omega arith in let e : run_cost s k ≡ run_cost s zero = ap (run_cost s) none in omega (arith, e)
 spent_grows s k (suc n) low =
     ⊎_elim (λ (l : k < suc n). omega (arith, spent_grows s k n (omega arith)))
-    (λ (e : k ≡ suc n). let same : spent s k ≡ spent s (suc n) = ap (spent s) e in omega (arith, same)) (at_or_below k (suc n) low)
+    (λ (e : k ≡ suc n). let same : run_cost s k ≡ run_cost s (suc n) = ap (run_cost s) e in omega (arith, same)) (at_or_below k (suc n) low)
 
 -- each step costs at least 1
-pub spent_least : (s : State) (n : ℕ) (t : State) → after s n ≡ Some t → n ≤ spent s n
+pub spent_least : (s : State) (n : ℕ) (t : State) → after s n ≡ Some t → n ≤ run_cost s n
 spent_least s zero t h = omega arith
 spent_least s (suc n) t h =
     let (u, before, goes) = step_back s n t h in
@@ -89,91 +89,91 @@ pub done_at_from : (limit c : ℕ) (o : Option State) (t : State) → o ≡ Some
 done_at_from limit c o t there low fine = ap (is_done_at limit c) there ∙ done_from limit c t low fine
 
 -- the steps before one that is done are done
-done_before : (limit : ℕ) (s : State) (k n : ℕ) → is_done_at limit (spent s n) (after s n) ≡ true → k ≤ n → is_done_at limit (spent s k) (after s k) ≡ true
+done_before : (limit : ℕ) (s : State) (k n : ℕ) → is_done_at limit (run_cost s n) (after s n) ≡ true → k ≤ n → is_done_at limit (run_cost s k) (after s k) ≡ true
 done_before limit s k n h low =
     ⊎_elim
     (λ (less : k < n).
-    let (t, there, cost, fine) = done_at_tells limit (spent s n) (after s n) h in
+    let (t, there, cost, fine) = done_at_tells limit (run_cost s n) (after s n) h in
     let (v, reached) = before_end s n t (suc k) there (omega arith) in
     let (u, before, goes) = step_back s k v reached in
-    done_at_from limit (spent s k) (after s k) u before (omega (arith, spent_next s k u before, spent_grows s (suc k) n (omega arith), cost)) (ap is_fault goes))
-    (λ (same : k ≡ n). subst (λ (j : ℕ). is_done_at limit (spent s j) (after s j) ≡ true) (sym same) h) (at_or_below k n low)
+    done_at_from limit (run_cost s k) (after s k) u before (omega (arith, spent_next s k u before, spent_grows s (suc k) n (omega arith), cost)) (ap is_fault goes))
+    (λ (same : k ≡ n). subst (λ (j : ℕ). is_done_at limit (run_cost s j) (after s j) ≡ true) (sym same) h) (at_or_below k n low)
 
 -- step k is among those that are done exactly where it is done
-pub done_in_tells : (limit : ℕ) (s : State) (k : ℕ) → k < done_in limit s → is_done_at limit (spent s k) (after s k) ≡ true
+pub done_in_tells : (limit : ℕ) (s : State) (k : ℕ) → k < done_in limit s → is_done_at limit (run_cost s k) (after s k) ≡ true
 done_in_tells limit s k low =
     ⊎_elim (λ none. absurd (omega (arith, low, none))) (from_last (done_in limit s) low) (greatest_passes (is_nth_done limit s) limit)
   where
-    from_last : (n : ℕ) → k < n → is_nth_done limit s n ≡ true → is_done_at limit (spent s k) (after s k) ≡ true
+    from_last : (n : ℕ) → k < n → is_nth_done limit s n ≡ true → is_done_at limit (run_cost s k) (after s k) ≡ true
     from_last zero below h = absurd (omega arith)
     from_last (suc n) below h = done_before limit s k n h (omega arith)
 
-pub done_in_from : (limit : ℕ) (s : State) (k : ℕ) → is_done_at limit (spent s k) (after s k) ≡ true → k < done_in limit s
+pub done_in_from : (limit : ℕ) (s : State) (k : ℕ) → is_done_at limit (run_cost s k) (after s k) ≡ true → k < done_in limit s
 done_in_from limit s k h =
-    let (t, there, cost, fine) = done_at_tells limit (spent s k) (after s k) h in
+    let (t, there, cost, fine) = done_at_tells limit (run_cost s k) (after s k) h in
     omega (arith, greatest_least (is_nth_done limit s) limit (suc k) (omega (arith, spent_least s k t there, some_cost t, cost)) h)
 
-no_fewer : (limit : ℕ) (s : State) (n : ℕ) → ((k : ℕ) → k < n → is_done_at limit (spent s k) (after s k) ≡ true) → n ≤ done_in limit s
+no_fewer : (limit : ℕ) (s : State) (n : ℕ) → ((k : ℕ) → k < n → is_done_at limit (run_cost s k) (after s k) ≡ true) → n ≤ done_in limit s
 no_fewer limit s zero each = omega arith
 no_fewer limit s (suc m) each = omega (arith, done_in_from limit s m (each m (omega arith)))
 
-no_more : (limit : ℕ) (s : State) (n : ℕ) → is_done_at limit (spent s n) (after s n) ≡ false → done_in limit s ≤ n
+no_more : (limit : ℕ) (s : State) (n : ℕ) → is_done_at limit (run_cost s n) (after s n) ≡ false → done_in limit s ≤ n
 no_more limit s n last =
     ⊎_elim (λ t. absurd (true≢false (sym (done_in_tells limit s n (omega (arith, t.1))) ∙ last))) (λ t. omega (arith, t.1)) (leb_tells (suc n) (done_in limit s))
 
 -- there are n of them where those before step n are done, and it isn't
-pub done_in_is : (limit : ℕ) (s : State) (n : ℕ) → ((k : ℕ) → k < n → is_done_at limit (spent s k) (after s k) ≡ true)
-    → is_done_at limit (spent s n) (after s n) ≡ false → done_in limit s ≡ n
+pub done_in_is : (limit : ℕ) (s : State) (n : ℕ) → ((k : ℕ) → k < n → is_done_at limit (run_cost s k) (after s k) ≡ true)
+    → is_done_at limit (run_cost s n) (after s n) ≡ false → done_in limit s ≡ n
 done_in_is limit s n each last = omega (arith, no_fewer limit s n each, no_more limit s n last)
 
 -- ---- the steps that fit
 -- what fits costs little enough and touches few enough pages
-pub fits_tells : (l : Limits) (s : State) (n : ℕ) → fits l s n ≡ true → (spent s n ≤ l.cycles) × (length (ascending (touched s n)) ≤ l.pages)
-unfolding fits
+pub fits_tells : (l : Limits) (s : State) (n : ℕ) → segment_fits l s n ≡ true → (run_cost s n ≤ l.cycles) × (length (ascending (run_pages s n)) ≤ l.pages)
+unfolding segment_fits
 fits_tells l s n h =
-    let (cost, pages) = and_parts (leb (spent s n) l.cycles) (leb (length (ascending (touched s n))) l.pages) h in
-    (leb-true (spent s n) l.cycles cost, leb-true (length (ascending (touched s n))) l.pages pages)
+    let (cost, pages) = and_parts (leb (run_cost s n) l.cycles) (leb (length (ascending (run_pages s n))) l.pages) h in
+    (leb-true (run_cost s n) l.cycles cost, leb-true (length (ascending (run_pages s n))) l.pages pages)
 
-pub fits_from : (l : Limits) (s : State) (n : ℕ) → spent s n ≤ l.cycles → length (ascending (touched s n)) ≤ l.pages → fits l s n ≡ true
-unfolding fits
-fits_from l s n cost pages = rw (le-leb (spent s n) l.cycles cost, le-leb (length (ascending (touched s n))) l.pages pages) refl
+pub fits_from : (l : Limits) (s : State) (n : ℕ) → run_cost s n ≤ l.cycles → length (ascending (run_pages s n)) ≤ l.pages → segment_fits l s n ≡ true
+unfolding segment_fits
+fits_from l s n cost pages = rw (le-leb (run_cost s n) l.cycles cost, le-leb (length (ascending (run_pages s n))) l.pages pages) refl
 
-touched_grows : (s : State) (n : ℕ) → length (ascending (touched s n)) ≤ length (ascending (touched s (suc n)))
-unfolding touched
-touched_grows s n = ascending_grows (touched s n) (pages_at (after s n))
+touched_grows : (s : State) (n : ℕ) → length (ascending (run_pages s n)) ≤ length (ascending (run_pages s (suc n)))
+unfolding run_pages
+touched_grows s n = ascending_grows (run_pages s n) (pages_at (after s n))
 
 -- no steps fit, and where one more fits, these do
-pub fits_none : (l : Limits) (s : State) → fits l s 0 ≡ true
-unfolding spent touched ascending
+pub fits_none : (l : Limits) (s : State) → segment_fits l s 0 ≡ true
+unfolding run_cost run_pages ascending
 fits_none l s = fits_from l s 0 (omega arith) (omega arith)
 
-pub fits_less : (l : Limits) (s : State) (n : ℕ) → fits l s (suc n) ≡ true → fits l s n ≡ true
+pub fits_less : (l : Limits) (s : State) (n : ℕ) → segment_fits l s (suc n) ≡ true → segment_fits l s n ≡ true
 fits_less l s n h =
     let (cost, pages) = fits_tells l s (suc n) h in
     fits_from l s n (omega (arith, cost, spent_grows s n (suc n) (omega arith))) (omega (arith, pages, touched_grows s n))
 
-pub fits_fewer : (l : Limits) (s : State) (k n : ℕ) → k ≤ n → fits l s n ≡ true → fits l s k ≡ true
-fits_fewer l s k zero low h = subst (λ (j : ℕ). fits l s j ≡ true) (omega arith) h
+pub fits_fewer : (l : Limits) (s : State) (k n : ℕ) → k ≤ n → segment_fits l s n ≡ true → segment_fits l s k ≡ true
+fits_fewer l s k zero low h = subst (λ (j : ℕ). segment_fits l s j ≡ true) (omega arith) h
 fits_fewer l s k (suc n) low h =
     ⊎_elim (λ (less : k < suc n). fits_fewer l s k n (omega arith) (fits_less l s n h))
-    (λ (same : k ≡ suc n). subst (λ (j : ℕ). fits l s j ≡ true) (sym same) h) (at_or_below k (suc n) low)
+    (λ (same : k ≡ suc n). subst (λ (j : ℕ). segment_fits l s j ≡ true) (sym same) h) (at_or_below k (suc n) low)
 
 -- ---- the longest stretch
 pub longest_low : (l : Limits) (s : State) (n : ℕ) → longest l s n ≤ n
-longest_low l s n = greatest_most (fits l s) n
+longest_low l s n = greatest_most (segment_fits l s) n
 
-pub longest_fits : (l : Limits) (s : State) (n : ℕ) → fits l s (longest l s n) ≡ true
+pub longest_fits : (l : Limits) (s : State) (n : ℕ) → segment_fits l s (longest l s n) ≡ true
 longest_fits l s n =
-    ⊎_elim (λ none. subst (λ (k : ℕ). fits l s k ≡ true) (sym none) (fits_none l s)) (λ h. h) (greatest_passes (fits l s) n)
+    ⊎_elim (λ none. subst (λ (k : ℕ). segment_fits l s k ≡ true) (sym none) (fits_none l s)) (λ h. h) (greatest_passes (segment_fits l s) n)
 
-pub longest_some : (l : Limits) (s : State) (n : ℕ) → 0 < n → fits l s 1 ≡ true → 0 < longest l s n
-longest_some l s n some one = omega (arith, greatest_least (fits l s) n 1 (omega (arith, some)) one)
+pub longest_some : (l : Limits) (s : State) (n : ℕ) → 0 < n → segment_fits l s 1 ≡ true → 0 < longest l s n
+longest_some l s n some one = omega (arith, greatest_least (segment_fits l s) n 1 (omega (arith, some)) one)
 
 -- a stretch that fits is the longest of at most m steps where it has m, or one more doesn't fit
-pub longest_is : (l : Limits) (s : State) (n m : ℕ) → fits l s n ≡ true → n ≤ m → ((n ≡ m) ⊎ (fits l s (suc n) ≡ false)) → longest l s m ≡ n
-longest_is l s n m fit low last = omega (arith, greatest_least (fits l s) m n low fit, no_longer last)
+pub longest_is : (l : Limits) (s : State) (n m : ℕ) → segment_fits l s n ≡ true → n ≤ m → ((n ≡ m) ⊎ (segment_fits l s (suc n) ≡ false)) → longest l s m ≡ n
+longest_is l s n m fit low last = omega (arith, greatest_least (segment_fits l s) m n low fit, no_longer last)
   where
-    no_longer : (n ≡ m) ⊎ (fits l s (suc n) ≡ false) → longest l s m ≤ n
+    no_longer : (n ≡ m) ⊎ (segment_fits l s (suc n) ≡ false) → longest l s m ≤ n
     no_longer (inl same) = omega (arith, longest_low l s m, same)
     no_longer (inr over) =
         ⊎_elim (λ t. absurd (true≢false (sym (fits_fewer l s (suc n) (longest l s m) t.1 (longest_fits l s m)) ∙ over))) (λ t. omega (arith, t.1))

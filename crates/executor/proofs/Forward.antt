@@ -13,7 +13,7 @@ use Rattle.page_core.specs.Memory.{top, bytes, Within}
 use Rattle.std.specs.Prelude.{Contains}
 use Rattle.rv_step.proofs.Steps.{all_open}
 use Rattle.host_calls.specs.Calls.{takes}
-use Rattle.rv_step.specs.Machine.{State, Went, Halted, Faulted, act_of_word, supplied, act, called, done, step_of, foot_of}
+use Rattle.rv_step.specs.Machine.{State, Went, Halted, Faulted, act_of_word, act_with_words, act, call_event, act_event, step_of, foot_of}
 use Rattle.rv_step.specs.Runs.{after}
 use Rattle.rv_step.specs.Laws.{Beside, Alike}
 use Rattle.rv_step.proofs.Feet.{code_in_foot}
@@ -21,7 +21,7 @@ use Rattle.rv_step.proofs.Frame.{range_same, one_page, act_in, act_out}
 use Rattle.std.proofs.lemmas.Option.{same_Some}
 use Rattle.rv_step.proofs.Runs.{step_back}
 use Rattle.flat_machine.proofs.RunFeet.{none_closed}
-use Rattle.executor.specs.Proving.{taken, read_by, read_at, used}
+use Rattle.executor.specs.Proving.{words_taken, read_by, read_at, run_words}
 
 -- ---- footprints lie below 2 ^ 28
 pub foot_in : (s : State) → s.pc % 4 ≡ 0 → (p : ℕ) → Contains (foot_of s) p → p < 262144
@@ -41,7 +41,7 @@ pub no_fault : (f : Fault) (t : State) → Faulted f ≡ Went t → ⊥
 no_fault f t e = cc
 
 -- ---- a step with the words and pages of another does the same
-supplied_back : (k l : ℕ) (a : Act) → ((call : Call) → supplied l a ≡ Does call → takes call ≤ k) → ((f : Fault) → supplied l a ≡ Faults f → ⊥) → supplied k a ≡ supplied l a
+supplied_back : (k l : ℕ) (a : Act) → ((call : Call) → act_with_words l a ≡ Does call → takes call ≤ k) → ((f : Fault) → act_with_words l a ≡ Faults f → ⊥) → act_with_words k a ≡ act_with_words l a
 supplied_back k l (Sets pc rd v) has fine = refl
 supplied_back k l (Loads op rd a) has fine = refl
 supplied_back k l (Stores op a v) has fine = refl
@@ -68,14 +68,14 @@ module _ (pages : List ℕ) (more : Beside) (u v : State) (aligned : u.pc % 4 �
           let decoded : act_of_word (from_le_bytes w32 (bytes v.memory v.pc 4)) v.pc v.x ≡ word =
           ap₂ (λ p x. act_of_word (from_le_bytes w32 (bytes v.memory p 4)) p x) same.pc same.x
           ∙ ap (λ bs. act_of_word (from_le_bytes w32 bs) u.pc u.x) (fetch_back h) in
-          let of_v : act v ≡ supplied (length v.words) word = act_in v (ap (leb top) same.pc ∙ e) ∙ ap (supplied (length v.words)) decoded in
+          let of_v : act v ≡ act_with_words (length v.words) word = act_in v (ap (leb top) same.pc ∙ e) ∙ ap (act_with_words (length v.words)) decoded in
           act_in u e
           ∙ supplied_back (length u.words) (length v.words) word (λ call d. has call (of_v ∙ d)) (λ f d. fine f (of_v ∙ d))
           ∙ sym of_v
 
 -- ---- what an act and its event say of one another
-fault_event : (a : Act) (s : State) (f : Fault) → done a s ≡ Faulted f → (g : Fault) × (a ≡ Faults g)
-unfolding done called
+fault_event : (a : Act) (s : State) (f : Fault) → act_event a s ≡ Faulted f → (g : Fault) × (a ≡ Faults g)
+unfolding act_event call_event
 fault_event (Sets pc rd v) s f e = absurd (cc)
 fault_event (Loads op rd a) s f e = absurd (cc)
 fault_event (Stores op a v) s f e = absurd (cc)
@@ -86,23 +86,23 @@ fault_event (Does (Assume image journal)) s f e = absurd (cc)
 fault_event (Faults g) s f e = (g, refl)
 
 pub act_faults : (s : State) (f : Fault) → act s ≡ Faults f → step_of s ≡ Faulted f
-unfolding step_of done
-act_faults s f e = ap (λ a. done a s) e
+unfolding step_of act_event
+act_faults s f e = ap (λ a. act_event a s) e
 
 pub step_faults : (s : State) (f : Fault) → step_of s ≡ Faulted f → (g : Fault) × (act s ≡ Faults g)
 unfolding step_of
 step_faults s f e = fault_event (act s) s f e
 
 -- the words before a step are those that it reads and those after it
-called_words : (call : Call) (s t : State) → called call s ≡ Went t → s.words ≡ take (takes call) s.words ++ t.words
-unfolding called
+called_words : (call : Call) (s t : State) → call_event call s ≡ Went t → s.words ≡ take (takes call) s.words ++ t.words
+unfolding call_event
 called_words (Halt code) s t e = absurd (no_halt code t e)
 called_words (Read pointer count) s t e = sym (take-append-drop count s.words) ∙ ap (λ (u : State). take count s.words ++ u.words) (went _ t e)
 called_words (Commit pointer count) s t e = ap (λ (u : State). u.words) (went _ t e)
 called_words (Assume image journal) s t e = ap (λ (u : State). u.words) (went _ t e)
 
-done_words : (a : Act) (s t : State) → done a s ≡ Went t → s.words ≡ take (taken a) s.words ++ t.words
-unfolding done
+done_words : (a : Act) (s t : State) → act_event a s ≡ Went t → s.words ≡ take (words_taken a) s.words ++ t.words
+unfolding act_event
 done_words (Sets pc rd v) s t e = ap (λ (u : State). u.words) (went _ t e)
 done_words (Loads op rd a) s t e = ap (λ (u : State). u.words) (went _ t e)
 done_words (Stores op a v) s t e = ap (λ (u : State). u.words) (went _ t e)
@@ -113,18 +113,18 @@ pub step_words : (s t : State) → step_of s ≡ Went t → s.words ≡ read_by 
 unfolding step_of read_by
 step_words s t e = done_words (act s) s t e
 
-pub run_words : (s : State) (n : ℕ) (t : State) → after s n ≡ Some t → s.words ≡ used s n ++ t.words
-unfolding used after
-run_words s zero t h = ap (λ (u : State). u.words) (same_Some s t h)
-run_words s (suc n) t h =
+pub run_words_are : (s : State) (n : ℕ) (t : State) → after s n ≡ Some t → s.words ≡ run_words s n ++ t.words
+unfolding run_words after
+run_words_are s zero t h = ap (λ (u : State). u.words) (same_Some s t h)
+run_words_are s (suc n) t h =
     let (u, before, goes) = step_back s n t h in
-    run_words s n u before
-    ∙ ap (λ (ws : List ℕ). used s n ++ ws) (step_words u t goes)
-    ∙ sym (append_assoc (used s n) (read_by u) t.words)
-    ∙ ap (λ (o : Option State). used s n ++ read_at o ++ t.words) (sym before)
+    run_words_are s n u before
+    ∙ ap (λ (ws : List ℕ). run_words s n ++ ws) (step_words u t goes)
+    ∙ sym (append_assoc (run_words s n) (read_by u) t.words)
+    ∙ ap (λ (o : Option State). run_words s n ++ read_at o ++ t.words) (sym before)
 
-halting_takes : (a : Act) (s : State) (code : ℕ) → done a s ≡ Halted code → taken a ≡ 0
-unfolding done called
+halting_takes : (a : Act) (s : State) (code : ℕ) → act_event a s ≡ Halted code → words_taken a ≡ 0
+unfolding act_event call_event
 halting_takes (Sets pc rd v) s code e = refl
 halting_takes (Loads op rd a) s code e = refl
 halting_takes (Stores op a v) s code e = refl
@@ -134,6 +134,6 @@ halting_takes (Does (Commit pointer count)) s code e = absurd (cc)
 halting_takes (Does (Assume image journal)) s code e = absurd (cc)
 halting_takes (Faults f) s code e = refl
 
-pub halt_takes : (s : State) (code : ℕ) → step_of s ≡ Halted code → taken (act s) ≡ 0
+pub halt_takes : (s : State) (code : ℕ) → step_of s ≡ Halted code → words_taken (act s) ≡ 0
 unfolding step_of
 halt_takes s code e = halting_takes (act s) s code e

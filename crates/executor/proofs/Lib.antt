@@ -8,4 +8,5 @@ pub mod Limited
 pub mod UnderWay
 pub mod Sealed
 pub mod Onward
+pub mod Outcomes
 pub mod Public

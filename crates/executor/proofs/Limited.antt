@@ -17,7 +17,7 @@ use Rattle.rv_step.specs.declared.act.Act.TheVariants.{Sets, Loads, Stores, Does
 use Rattle.rv_step.specs.Acts.{IsMade}
 use Rattle.rv_step.specs.Laws.{IsReady}
 use Rattle.rv_step.specs.Machine.{State, act, full, cost_of_act, step_cost}
-use Rattle.rv_step.specs.Runs.{start, after, at_some, spent, touched, pages_at}
+use Rattle.rv_step.specs.Runs.{start, after, at_some, run_cost, run_pages, pages_at}
 use Rattle.rv_step.proofs.Feet.{foot_has_registers}
 use Rattle.rv_step.proofs.Kept.{step_keeps}
 use Rattle.rv_step.proofs.Made.{full_pages}
@@ -25,8 +25,8 @@ use Rattle.rv_step.proofs.Runs.{run_keeps, spent_next}
 use Rattle.flat_machine.proofs.RunFeet.{some_cost}
 use Rattle.receipt_types.specs.Limits.{SealLimits, AllSealLimits}
 use Rattle.seal_replay.proofs.Chains.{start_ready}
-use Rattle.executor.specs.Segments.{Limits, done_in, fits, longest, segments}
-use Rattle.executor.specs.Proving.{taken, read_by, read_at, used, seal_from, seals_from}
+use Rattle.executor.specs.Segments.{Limits, done_in, segment_fits, longest, segments}
+use Rattle.executor.specs.Proving.{words_taken, read_by, read_at, run_words, seal_from, seals_from}
 use Rattle.executor.specs.Laws.{AreLimits, CutsKeepLimits}
 use Rattle.executor.proofs.Ordered.{ascending_some}
 use Rattle.executor.proofs.Cutting.{run_ready, spent_least, fits_tells, longest_low, longest_fits, longest_some, segments_none, segments_some}
@@ -39,7 +39,7 @@ abbrev AreWords : List ℕ → Type 0
 AreWords words = All (λ word. word < 2 ^ 32) words
 
 -- a step takes no more words than it costs
-taken_cost : (a : Act) → taken a ≤ cost_of_act a
+taken_cost : (a : Act) → words_taken a ≤ cost_of_act a
 taken_cost (Sets pc rd v) = omega arith
 taken_cost (Loads op rd a) = omega arith
 taken_cost (Stores op a v) = omega arith
@@ -51,12 +51,12 @@ taken_cost (Faults fault) = omega arith
 
 read_few : (s : State) → length (read_by s) ≤ step_cost s
 unfolding read_by step_cost
-read_few s = omega (arith, length-take (taken (act s)) s.words, taken_cost (act s))
+read_few s = omega (arith, length-take (words_taken (act s)) s.words, taken_cost (act s))
 
-pub used_few : (s : State) (n : ℕ) → length (used s n) ≤ spent s n
-unfolding used spent
+pub used_few : (s : State) (n : ℕ) → length (run_words s n) ≤ run_cost s n
+unfolding run_words run_cost
 used_few s zero = omega arith
-used_few s (suc n) = omega (arith, length-append (used s n) (read_at (after s n)), used_few s n, read_at_few (after s n))
+used_few s (suc n) = omega (arith, length-append (run_words s n) (read_at (after s n)), used_few s n, read_at_few (after s n))
   where
     read_at_few : (o : Option State) → length (read_at o) ≤ at_some step_cost o
     read_at_few (Some t) = read_few t
@@ -73,23 +73,23 @@ words_left s n t =
 
 read_words : (s : State) → AreWords s.words → AreWords (read_by s)
 unfolding read_by
-read_words s h = All-take (λ (word : ℕ). word < 2 ^ 32) (taken (act s)) s.words h
+read_words s h = All-take (λ (word : ℕ). word < 2 ^ 32) (words_taken (act s)) s.words h
 
-used_words : (s : State) (n : ℕ) → AreWords s.words → AreWords (used s n)
-unfolding used
+used_words : (s : State) (n : ℕ) → AreWords s.words → AreWords (run_words s n)
+unfolding run_words
 used_words s zero h = All-nil (λ (word : ℕ). word < 2 ^ 32)
-used_words s (suc n) h = All-append (λ (word : ℕ). word < 2 ^ 32) (used s n) (read_at (after s n)) (used_words s n h) (read_at_words (after s n) refl)
+used_words s (suc n) h = All-append (λ (word : ℕ). word < 2 ^ 32) (run_words s n) (read_at (after s n)) (used_words s n h) (read_at_words (after s n) refl)
   where
     read_at_words : (o : Option State) → after s n ≡ o → AreWords (read_at o)
     read_at_words (Some t) there = read_words t (words_left s n t h there)
     read_at_words None there = All-nil (λ (word : ℕ). word < 2 ^ 32)
 
 -- ---- pages
-pub touched_low : (s : State) (n : ℕ) → IsReady s → (p : ℕ) → Contains (touched s n) p → p < 262144
-unfolding touched
+pub touched_low : (s : State) (n : ℕ) → IsReady s → (p : ℕ) → Contains (run_pages s n) p → p < 262144
+unfolding run_pages
 touched_low s zero ready p h = absurd (Contains-none p h)
 touched_low s (suc n) ready p h =
-    ⊎_elim (touched_low s n ready p) (foot_low (after s n) refl) (Contains-append_cases (touched s n) (pages_at (after s n)) p h)
+    ⊎_elim (touched_low s n ready p) (foot_low (after s n) refl) (Contains-append_cases (run_pages s n) (pages_at (after s n)) p h)
   where
     foot_low : (o : Option State) → after s n ≡ o → Contains (pages_at o) p → p < 262144
     foot_low (Some t) there e = foot_in t (run_ready s n t ready there).aligned p e
@@ -99,26 +99,26 @@ pub all_low : (ps : List ℕ) → ((p : ℕ) → Contains ps p → p < 262144) �
 all_low [] h = All-nil (λ (page : ℕ). page < 262144)
 all_low (p ∷ ps) h = All-cons (λ (page : ℕ). page < 262144) p ps (h p (Contains-head p p ps refl)) (all_low ps (λ q e. h q (Contains-tail q p ps e)))
 
-pub touched_registers : (s : State) (n : ℕ) → 0 < n → Contains (touched s n) 262143
+pub touched_registers : (s : State) (n : ℕ) → 0 < n → Contains (run_pages s n) 262143
 unfolding after
 touched_registers s n some = touched_in s n 0 s some refl 262143 (foot_has_registers s)
 
 -- ---- a seal
-pub steps_cost : (s : State) (n : ℕ) → ((k : ℕ) → k < n → (u : State) × (after s k ≡ Some u)) → n ≤ spent s n
+pub steps_cost : (s : State) (n : ℕ) → ((k : ℕ) → k < n → (u : State) × (after s k ≡ Some u)) → n ≤ run_cost s n
 steps_cost s zero each = omega arith
 steps_cost s (suc m) each =
     let (u, there) = each m (omega arith) in
     omega (arith, spent_least s m u there, spent_next s m u there, some_cost u)
 
 module _ (H : List ℕ → List ℕ) (is_digest : (x : List ℕ) → IsDigest (H x)) (l : Limits) (are : AreLimits l) where
-  canonical : (s : State) (n : ℕ) → IsReady s → IsMade s → 0 < n → length (ascending (touched s n)) ≤ l.pages → IsCanonical (seal_from H s n).tree
+  canonical : (s : State) (n : ℕ) → IsReady s → IsMade s → 0 < n → length (ascending (run_pages s n)) ≤ l.pages → IsCanonical (seal_from H s n).tree
   canonical s n ready made some few =
       let bound : l.pages ≤ 4096 = are.most_pages in
-      canonical_form H (page_of (full s)) (ascending (touched s n)) is_digest (full_pages s made)
-      (all_low (ascending (touched s n)) (λ p h. touched_low s n ready p (Contains-from_ascending (touched s n) p h)))
-      (ascending_some (touched s n) 262143 (touched_registers s n some)) (omega (arith, few, bound))
+      canonical_form H (page_of (full s)) (ascending (run_pages s n)) is_digest (full_pages s made)
+      (all_low (ascending (run_pages s n)) (λ p h. touched_low s n ready p (Contains-from_ascending (run_pages s n) p h)))
+      (ascending_some (run_pages s n) 262143 (touched_registers s n some)) (omega (arith, few, bound))
 
-  seal_limits : (s : State) (n : ℕ) → IsReady s → IsMade s → AreWords s.words → 0 < n → fits l s n ≡ true → n ≤ spent s n → SealLimits (seal_from H s n)
+  seal_limits : (s : State) (n : ℕ) → IsReady s → IsMade s → AreWords s.words → 0 < n → segment_fits l s n ≡ true → n ≤ run_cost s n → SealLimits (seal_from H s n)
   seal_limits s n ready made words some fit steps =
       let (cost, few) = fits_tells l s n fit in
       let bound : l.cycles ≤ 16777216 = are.most_cycles in

@@ -2,21 +2,21 @@
 use Rattle.std.proofs.Common.{◌≡◌, ◌⊎◌, inl, inr, ℕ, ◌+◌, ◌-◌, ◌<◌, ◌≤◌, List, [], ◌∷◌, ◌++◌, length, Option, Some, None, refl, sym, ap, ap₂, ◌∙◌, subst, arith, length-append, append-nil, append_assoc}
 use Rattle.page_core.specs.Images.{Image}
 use Rattle.page_core.specs.Memory.{ascending}
-use Rattle.host_calls.specs.Meters.{Metered, unused}
+use Rattle.host_calls.specs.Meters.{Metered, fresh_meter}
 use Rattle.rv_step.specs.Machine.{State}
-use Rattle.rv_step.specs.Runs.{start, after, spent, touched, IsOutcome}
+use Rattle.rv_step.specs.Runs.{start, after, run_cost, run_pages, IsOutcome}
 use Rattle.rv_step.specs.declared.outcome.Outcome.{Outcome}
 use Rattle.std.proofs.lemmas.Option.{same_Some}
 use Rattle.rv_step.proofs.Runs.{after-add}
-use Rattle.flat_machine.specs.Going.{state_of, Stands as IsRun}
+use Rattle.flat_machine.specs.Going.{flat_state, IsRunOf}
 use Rattle.executor.specs.Segments.{done_in, segments, lengths, total}
-use Rattle.executor.specs.Cutting.{Cutting, HasOutcome, IsUnderWay, IsOver, Stands, IsWhole, IsCutting}
+use Rattle.executor.specs.Cutting.{Cutting, HasOutcome, IsUnderWay, IsOver, CutsRun, IsWhole, IsCutting}
 use Rattle.executor.proofs.Cutting.{fits_none, segments_none}
 use Rattle.executor.proofs.UnderWay.{some_of, went_all}
 use Rattle.executor.proofs.Sealed.{cuts_here}
 
 -- ---- where the run has ended and no step is left
-pub over : (c : Cutting) (o : Outcome) → c.outcome ≡ Some o → c.steps ≡ 0 → (image : Image) (words : List ℕ) → Stands c image words
+pub over : (c : Cutting) (o : Outcome) → c.outcome ≡ Some o → c.steps ≡ 0 → (image : Image) (words : List ℕ) → CutsRun c image words
     → (c.number ≡ length (lengths c.limits (start image words))) × IsOutcome (start image words) c.limits.limit o
 over c o told none image words stands = go stands.segment
   where
@@ -40,7 +40,7 @@ has_ended r c (inr o) whole none = (o.outcome, o.told)
 
 -- ---- where a segment is whole and has a step
 -- it is one of the run's
-pub has_more : (c : Cutting) → 1 ≤ c.steps → (image : Image) (words : List ℕ) → (stands : Stands c image words) → IsWhole (start image words) c stands.segment → c.number < length (lengths c.limits (start image words))
+pub has_more : (c : Cutting) → 1 ≤ c.steps → (image : Image) (words : List ℕ) → (stands : CutsRun c image words) → IsWhole (start image words) c stands.segment → c.number < length (lengths c.limits (start image words))
 has_more c some image words stands whole = go stands.segment whole
   where
     go : (segment : IsUnderWay (start image words) c ⊎ IsOver (start image words) c) → IsWhole (start image words) c segment → c.number < length (lengths c.limits (start image words))
@@ -59,10 +59,10 @@ total-append : (ns : List ℕ) (n : ℕ) → total (ns ++ n ∷ []) ≡ total ns
 total-append [] n = omega arith
 total-append (k ∷ ns) n = omega (arith, total-append ns n)
 
-module _ (c : Cutting) (m : Metered) (some : 1 ≤ c.steps) (meter : m ≡ unused c.meter.cycles c.meter.pages) where
-  segment_given : (image : Image) (words : List ℕ) → IsRun c.going image words → (c.outcome ≡ None → c.going.halted ≡ None) → (segment : IsUnderWay (start image words) c ⊎ IsOver (start image words) c)
+module _ (c : Cutting) (m : Metered) (some : 1 ≤ c.steps) (meter : m ≡ fresh_meter c.meter.cycles c.meter.pages) where
+  segment_given : (image : Image) (words : List ℕ) → IsRunOf c.going image words → (c.outcome ≡ None → c.going.halted ≡ None) → (segment : IsUnderWay (start image words) c ⊎ IsOver (start image words) c)
       → IsWhole (start image words) c segment → (o : Option Outcome) → c.outcome ≡ o → IsUnderWay (start image words) (given c m) ⊎ IsOver (start image words) (given c m)
-  unfolding spent touched ascending
+  unfolding run_cost run_pages ascending
   segment_given image words run off (inl u) whole (Some o) told =
       let all : IsOutcome (start image words) c.limits.limit o × (u.b + c.steps ≡ done_in c.limits.limit (start image words)) =
       subst (λ (t : Option Outcome). HasOutcome c.limits.limit (start image words) (u.b + c.steps) t) told u.outcome in
@@ -77,23 +77,23 @@ module _ (c : Cutting) (m : Metered) (some : 1 ≤ c.steps) (meter : m ≡ unuse
   segment_given image words run off (inl u) whole None told =
       let r : State = start image words in
       let on = off told in
-      let here : after r (u.b + c.steps) ≡ Some (state_of c.going) = ap (after r) (sym u.steps) ∙ went_all c.going image words run on in
-      let next : after u.s c.steps ≡ Some (state_of c.going) = sym (after-add r u.b c.steps u.s u.reached) ∙ here in
+      let here : after r (u.b + c.steps) ≡ Some (flat_state c.going) = ap (after r) (sym u.steps) ∙ went_all c.going image words run on in
+      let next : after u.s c.steps ≡ Some (flat_state c.going) = sym (after-add r u.b c.steps u.s u.reached) ∙ here in
       inl (record {
         b = u.b + c.steps;
-        s = state_of c.going;
+        s = flat_state c.going;
         reached = here;
         given = u.given ++ c.steps ∷ [];
         cuts = cuts_here r c u whole some
             ∙ ap (λ (o : Option State). u.given ++ c.steps ∷ segments c.limits (done_in c.limits.limit r - c.number - 1) o (done_in c.limits.limit r - u.b - c.steps)) next
-            ∙ ap₂ (λ (k n : ℕ). u.given ++ c.steps ∷ segments c.limits k (Some (state_of c.going)) n) (omega arith) (omega arith)
-            ∙ sym (append_assoc u.given (c.steps ∷ []) (segments c.limits (done_in c.limits.limit r - (c.number + 1)) (Some (state_of c.going)) (done_in c.limits.limit r - (u.b + c.steps))));
+            ∙ ap₂ (λ (k n : ℕ). u.given ++ c.steps ∷ segments c.limits k (Some (flat_state c.going)) n) (omega arith) (omega arith)
+            ∙ sym (append_assoc u.given (c.steps ∷ []) (segments c.limits (done_in c.limits.limit r - (c.number + 1)) (Some (flat_state c.going)) (done_in c.limits.limit r - (u.b + c.steps))));
         number = length-append u.given (c.steps ∷ []) ∙ ap (λ (n : ℕ). n + 1) u.number;
         at = total-append u.given c.steps ∙ ap (λ (n : ℕ). n + c.steps) u.at;
         fewer = omega (arith, u.fewer, some);
         steps = omega (arith, u.steps);
         within = omega (arith, u.within);
-        fits = fits_none c.limits (state_of c.going);
+        fits = fits_none c.limits (flat_state c.going);
         beginning = tt;
         begun = refl;
         cost = ap (λ (x : Metered). x.cost) meter;
@@ -102,7 +102,7 @@ module _ (c : Cutting) (m : Metered) (some : 1 ≤ c.steps) (meter : m ≡ unuse
       })
   segment_given image words run off (inr o') whole o told = absurd (omega (arith, o'.steps, some))
 
-  pub stands_given : (c.outcome ≡ None → c.going.halted ≡ None) → (image : Image) (words : List ℕ) → (stands : Stands c image words) → IsWhole (start image words) c stands.segment → Stands (given c m) image words
+  pub stands_given : (c.outcome ≡ None → c.going.halted ≡ None) → (image : Image) (words : List ℕ) → (stands : CutsRun c image words) → IsWhole (start image words) c stands.segment → CutsRun (given c m) image words
   stands_given off image words stands whole = record { run = stands.run; segment = segment_given image words stands.run off stands.segment whole c.outcome refl }
 
   pub cutting_given : (h : IsCutting c) → IsWhole (start h.image h.words) c h.stands.segment → c.number < 65535 → IsCutting (given c m)

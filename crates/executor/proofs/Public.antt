@@ -7,3 +7,5 @@ pub use Rattle.executor.proofs.Covered
 pub use Rattle.executor.proofs.Forward
 -- the seal of a stretch of a run claims what the run does there
 pub use Rattle.executor.proofs.Claimed
+-- a run has one outcome under a limit
+pub use Rattle.executor.proofs.Outcomes

@@ -14,31 +14,31 @@ use Rattle.page_tree.specs.Grown.{AscendFrom}
 use Rattle.page_tree.proofs.Parted.{same_part}
 use Rattle.rv_step.specs.Machine.{State, Halted, step_of, full}
 use Rattle.rv_step.specs.Laws.{IsReady}
-use Rattle.rv_step.specs.Runs.{start, after, touched}
+use Rattle.rv_step.specs.Runs.{start, after, run_pages}
 use Rattle.rv_step.proofs.Runs.{after-add}
 use Rattle.claim_types.specs.declared.claim.Exit.{Exit}
 use Rattle.claim_types.specs.declared.claim.Exit.TheVariants.{Split, Halted as HaltedWith}
 use Rattle.receipt_types.specs.Seals.{Seal}
 use Rattle.receipt_types.specs.Bundles.{item}
-use Rattle.flat_machine.specs.Going.{Going, state_of, gone_in, HaltsWith, Stands as IsRun}
+use Rattle.flat_machine.specs.Going.{Going, flat_state, went_steps_in, HaltsWith, IsRunOf}
 use Rattle.seal_replay.specs.Replay.{stop_of}
 use Rattle.executor.specs.Segments.{done_in, segments, lengths}
-use Rattle.executor.specs.Proving.{read_by, read_at, used, seal_from, seals_from, cut_seals, Ends}
-use Rattle.executor.specs.Cutting.{Beginning, Cutting, BeginsAt, IsBegun, IsUnderWay, IsOver, Stands, IsLongest, IsWhole, IsCutting, IsCut}
+use Rattle.executor.specs.Proving.{read_by, read_at, run_words, seal_from, seals_from, cut_seals, EndsAfter}
+use Rattle.executor.specs.Cutting.{Beginning, Cutting, IsBeginning, IsBegun, IsUnderWay, IsOver, CutsRun, IsLongest, IsWhole, IsCutting, IsCut}
 use Rattle.executor.proofs.Cutting.{run_ready, before_end, fits_tells, segments_some, item-seals_from}
 use Rattle.executor.proofs.Ordered.{ascending_some}
 use Rattle.page_core.proofs.Ascending.{Ascend, ascends, Contains-from_ascending}
 use Rattle.executor.proofs.Limited.{used_few, steps_cost, touched_low, touched_registers}
 use Rattle.executor.proofs.Claimed.{stretches_replay}
-use Rattle.executor.proofs.Forward.{run_words, halt_takes}
+use Rattle.executor.proofs.Forward.{run_words_are, halt_takes}
 
 -- ---- where a segment ends
 -- how so many steps from s end, and which words are left then
 pub record EndsThere (s : State) (n : ℕ) (words : List ℕ) : Type 0 where
   pub exit : Exit
   pub z : State
-  pub ends : Ends s n exit z
-  pub words_are : s.words ≡ used s n ++ words
+  pub ends : EndsAfter s n exit z
+  pub words_are : s.words ≡ run_words s n ++ words
   pub each : (k : ℕ) → k < n → (u : State) × (after s k ≡ Some u)
 
 -- a halt reads no word
@@ -46,28 +46,28 @@ read_none : (z : State) (code : ℕ) → step_of z ≡ Halted code → read_by z
 unfolding read_by
 read_none z code halts = ap (λ (n : ℕ). take n z.words) (halt_takes z code halts)
 
-words_halted : (s : State) (n : ℕ) (z : State) (code : ℕ) → 1 ≤ n → after s (n - 1) ≡ Some z → step_of z ≡ Halted code → s.words ≡ used s n ++ z.words
-unfolding used
+words_halted : (s : State) (n : ℕ) (z : State) (code : ℕ) → 1 ≤ n → after s (n - 1) ≡ Some z → step_of z ≡ Halted code → s.words ≡ run_words s n ++ z.words
+unfolding run_words
 words_halted s zero z code some at halts = absurd (omega arith)
 words_halted s (suc m) z code some at halts =
     let there : after s m ≡ Some z = ap (after s) (omega arith) ∙ at in
     let none : read_at (after s m) ≡ [] = ap read_at there ∙ read_none z code halts in
-    run_words s m z there ∙ ap (λ (ws : List ℕ). ws ++ z.words) (sym (ap (λ (ws : List ℕ). used s m ++ ws) none ∙ append-nil (used s m)))
+    run_words_are s m z there ∙ ap (λ (ws : List ℕ). ws ++ z.words) (sym (ap (λ (ws : List ℕ). run_words s m ++ ws) none ∙ append-nil (run_words s m)))
 
-ends_there : (g : Going) (image : Image) (words : List ℕ) → IsRun g image words → (b n : ℕ) (s : State) → after (start image words) b ≡ Some s → g.steps ≡ b + n → 1 ≤ n → EndsThere s n g.words
+ends_there : (g : Going) (image : Image) (words : List ℕ) → IsRunOf g image words → (b n : ℕ) (s : State) → after (start image words) b ≡ Some s → g.steps ≡ b + n → 1 ≤ n → EndsThere s n g.words
 ends_there g image words run b n s reached steps some = go g.halted refl
   where
     go : (o : Option ℕ) → g.halted ≡ o → EndsThere s n g.words
     go None on =
-        let at : after s n ≡ Some (state_of g) =
-        sym (after-add (start image words) b n s reached) ∙ ap (after (start image words)) (sym steps) ∙ ap (λ (o : Option ℕ). after (start image words) (gone_in g.steps o)) (sym on) ∙ run.reached in
-        record { exit = Split; z = state_of g; ends = at; words_are = run_words s n (state_of g) at; each = λ k low. before_end s n (state_of g) k at (omega (arith, low)) }
+        let at : after s n ≡ Some (flat_state g) =
+        sym (after-add (start image words) b n s reached) ∙ ap (after (start image words)) (sym steps) ∙ ap (λ (o : Option ℕ). after (start image words) (went_steps_in g.steps o)) (sym on) ∙ run.reached in
+        record { exit = Split; z = flat_state g; ends = at; words_are = run_words_are s n (flat_state g) at; each = λ k low. before_end s n (flat_state g) k at (omega (arith, low)) }
     go (Some code) halted =
-        let halts : (1 ≤ g.steps) × (step_of (state_of g) ≡ Halted code) = subst (λ (o : Option ℕ). HaltsWith (state_of g) g.steps o) halted run.halts in
+        let halts : (1 ≤ g.steps) × (step_of (flat_state g) ≡ Halted code) = subst (λ (o : Option ℕ). HaltsWith (flat_state g) g.steps o) halted run.halts in
         let last : b + (n - 1) ≡ g.steps - 1 = omega (arith, steps, some) in
-        let at : after s (n - 1) ≡ Some (state_of g) =
-        sym (after-add (start image words) b (n - 1) s reached) ∙ ap (after (start image words)) last ∙ ap (λ (o : Option ℕ). after (start image words) (gone_in g.steps o)) (sym halted) ∙ run.reached in
-        record { exit = HaltedWith code; z = state_of g; ends = (at, halts.1); words_are = words_halted s n (state_of g) code some at halts.1; each = λ k low. before_end s (n - 1) (state_of g) k at (omega (arith, low, some)) }
+        let at : after s (n - 1) ≡ Some (flat_state g) =
+        sym (after-add (start image words) b (n - 1) s reached) ∙ ap (after (start image words)) last ∙ ap (λ (o : Option ℕ). after (start image words) (went_steps_in g.steps o)) (sym halted) ∙ run.reached in
+        record { exit = HaltedWith code; z = flat_state g; ends = (at, halts.1); words_are = words_halted s n (flat_state g) code some at halts.1; each = λ k low. before_end s (n - 1) (flat_state g) k at (omega (arith, low, some)) }
 
 -- ---- the parts of its seal
 append-left : (xs ys zs ws : List ℕ) → xs ++ ys ≡ zs ++ ws → length xs ≡ length zs → xs ≡ zs
@@ -87,16 +87,16 @@ drop-append [] ys = refl
 drop-append (x ∷ xs) ys = drop-append xs ys
 
 -- the words that were read since the segment began
-pub words_read : (g : Going) (image : Image) (words : List ℕ) → IsRun g image words → (b n : ℕ) (s : State) → after (start image words) b ≡ Some s → s.words ≡ used s n ++ g.words → (read : ℕ) → read ≡ length (used (start image words) b)
-    → drop read g.read ≡ used s n
+pub words_read : (g : Going) (image : Image) (words : List ℕ) → IsRunOf g image words → (b n : ℕ) (s : State) → after (start image words) b ≡ Some s → s.words ≡ run_words s n ++ g.words → (read : ℕ) → read ≡ length (run_words (start image words) b)
+    → drop read g.read ≡ run_words s n
 words_read g image words run b n s reached left read is =
-    let earlier : List ℕ = used (start image words) b in
-    let all : g.read ++ g.words ≡ (earlier ++ used s n) ++ g.words =
-    run.all ∙ run_words (start image words) b s reached ∙ ap (λ (ws : List ℕ). earlier ++ ws) left ∙ sym (append_assoc earlier (used s n) g.words) in
-    let sizes : length g.read + length g.words ≡ length (earlier ++ used s n) + length g.words =
-    sym (length-append g.read g.words) ∙ ap length all ∙ length-append (earlier ++ used s n) g.words in
-    let parts : g.read ≡ earlier ++ used s n = append-left g.read g.words (earlier ++ used s n) g.words all (omega (arith, sizes)) in
-    ap₂ (λ (n : ℕ) (ws : List ℕ). drop n ws) is parts ∙ drop-append earlier (used s n)
+    let earlier : List ℕ = run_words (start image words) b in
+    let all : g.read ++ g.words ≡ (earlier ++ run_words s n) ++ g.words =
+    run.all ∙ run_words_are (start image words) b s reached ∙ ap (λ (ws : List ℕ). earlier ++ ws) left ∙ sym (append_assoc earlier (run_words s n) g.words) in
+    let sizes : length g.read + length g.words ≡ length (earlier ++ run_words s n) + length g.words =
+    sym (length-append g.read g.words) ∙ ap length all ∙ length-append (earlier ++ run_words s n) g.words in
+    let parts : g.read ≡ earlier ++ run_words s n = append-left g.read g.words (earlier ++ run_words s n) g.words all (omega (arith, sizes)) in
+    ap₂ (λ (n : ℕ) (ws : List ℕ). drop n ws) is parts ∙ drop-append earlier (run_words s n)
 
 -- the tree of a stored memory is that of the state whose bytes it has
 pub tree_of : (H : List ℕ → List ℕ) (t : Stored) (s : State) (pages : List ℕ) → IsStoredFrom 0 t → ((a : ℕ) → memory_of t a ≡ full s a) → part_of H (stored_pages t) pages 18 0 ≡ part_of H (page_of (full s)) pages 18 0
@@ -127,18 +127,18 @@ module _ (H : List ℕ → List ℕ) (c : Cutting) (at : Beginning) (held : c.be
   abbrev pub made : Seal
   made = record { pc = pc; steps = c.steps; words = words'; tree = tree }
 
-  seal_is : (image : Image) (words : List ℕ) → IsRun c.going image words → (u : IsUnderWay (start image words) c) → made ≡ seal_from H u.s c.steps
+  seal_is : (image : Image) (words : List ℕ) → IsRunOf c.going image words → (u : IsUnderWay (start image words) c) → made ≡ seal_from H u.s c.steps
   seal_is image words run u =
-      let begins : BeginsAt (start image words) u.b u.s (Some at) = subst (λ (o : Option Beginning). BeginsAt (start image words) u.b u.s o) held u.beginning in
+      let begins : IsBeginning (start image words) u.b u.s (Some at) = subst (λ (o : Option Beginning). IsBeginning (start image words) u.b u.s o) held u.beginning in
       let ends = ends_there c.going image words run u.b c.steps u.s u.reached u.steps some in
       let one : pc ≡ u.s.pc = pc_is ∙ begins.0 in
-      let two : words' ≡ used u.s c.steps = words_are ∙ words_read c.going image words run u.b c.steps u.s u.reached ends.words_are at.read begins.1 in
-      let three : tree ≡ part_of H (page_of (full u.s)) (ascending (touched u.s c.steps)) 18 0 =
-      tree_is ∙ ap (λ (ps : List ℕ). part_of H (stored_pages at.tree) ps 18 0) u.touched ∙ tree_of H at.tree u.s (ascending (touched u.s c.steps)) begins.2 begins.3 in
+      let two : words' ≡ run_words u.s c.steps = words_are ∙ words_read c.going image words run u.b c.steps u.s u.reached ends.words_are at.read begins.1 in
+      let three : tree ≡ part_of H (page_of (full u.s)) (ascending (run_pages u.s c.steps)) 18 0 =
+      tree_is ∙ ap (λ (ps : List ℕ). part_of H (stored_pages at.tree) ps 18 0) u.touched ∙ tree_of H at.tree u.s (ascending (run_pages u.s c.steps)) begins.2 begins.3 in
       λ i. record { pc = one i; steps = c.steps; words = two i; tree = three i }
 
   -- it is the one of the run's seals whose number comes next
-  pub seal_next : (image : Image) (words : List ℕ) → (stands : Stands c image words) → IsWhole (start image words) c stands.segment → item (cut_seals H c.limits (start image words)) c.number ≡ Some made
+  pub seal_next : (image : Image) (words : List ℕ) → (stands : CutsRun c image words) → IsWhole (start image words) c stands.segment → item (cut_seals H c.limits (start image words)) c.number ≡ Some made
   seal_next image words stands whole = go stands.segment whole
     where
       go : (segment : IsUnderWay (start image words) c ⊎ IsOver (start image words) c) → IsWhole (start image words) c segment → item (cut_seals H c.limits (start image words)) c.number ≡ Some made
@@ -158,9 +158,9 @@ module _ (H : List ℕ → List ℕ) (c : Cutting) (at : Beginning) (held : c.be
           let same = seal_is h.image h.words h.stands.run u in
           let ends = ends_there c.going h.image h.words h.stands.run u.b c.steps u.s u.reached u.steps some in
           let ready : IsReady u.s = run_ready (start h.image h.words) u.b u.s h.ready u.reached in
-          let begins : BeginsAt (start h.image h.words) u.b u.s (Some at) = subst (λ (o : Option Beginning). BeginsAt (start h.image h.words) u.b u.s o) held u.beginning in
+          let begins : IsBeginning (start h.image h.words) u.b u.s (Some at) = subst (λ (o : Option Beginning). IsBeginning (start h.image h.words) u.b u.s o) held u.beginning in
           let pc : pc ≡ u.s.pc = pc_is ∙ begins.0 in
-          let two : length words' ≡ length (used u.s c.steps) = ap (λ (seal : Seal). length seal.words) same in
+          let two : length words' ≡ length (run_words u.s c.steps) = ap (λ (seal : Seal). length seal.words) same in
           let bounds = fits_tells c.limits u.s c.steps u.fits in
           record {
             limits = record {
@@ -191,7 +191,7 @@ opened_pages c h some = go h.stands.segment
     go (inl u) =
         let ready : IsReady u.s = run_ready (start h.image h.words) u.b u.s h.ready u.reached in
         let bounds = fits_tells c.limits u.s c.steps u.fits in
-        let pages : List ℕ = touched u.s c.steps in
+        let pages : List ℕ = run_pages u.s c.steps in
         subst AreOpened (sym u.touched) (record {
           some = ascending_some pages 262143 (touched_registers u.s c.steps (omega (arith, some)));
           few = omega (arith, bounds.1, h.limits.most_pages);
@@ -205,11 +205,11 @@ read_within c h at held some = go h.stands.segment
   where
     go : IsUnderWay (start h.image h.words) c ⊎ IsOver (start h.image h.words) c → at.read ≤ length c.going.read
     go (inl u) =
-        let begins : BeginsAt (start h.image h.words) u.b u.s (Some at) = subst (λ (o : Option Beginning). BeginsAt (start h.image h.words) u.b u.s o) held u.beginning in
+        let begins : IsBeginning (start h.image h.words) u.b u.s (Some at) = subst (λ (o : Option Beginning). IsBeginning (start h.image h.words) u.b u.s o) held u.beginning in
         let ends = ends_there c.going h.image h.words h.stands.run u.b c.steps u.s u.reached u.steps some in
-        let all : length c.going.read + length c.going.words ≡ length (used (start h.image h.words) u.b) + (length (used u.s c.steps) + length c.going.words) =
-        sym (length-append c.going.read c.going.words) ∙ ap length (h.stands.run.all ∙ run_words (start h.image h.words) u.b u.s u.reached ∙ ap (λ (ws : List ℕ). used (start h.image h.words) u.b ++ ws) ends.words_are)
-        ∙ length-append (used (start h.image h.words) u.b) (used u.s c.steps ++ c.going.words) ∙ ap (λ (n : ℕ). length (used (start h.image h.words) u.b) + n) (length-append (used u.s c.steps) c.going.words) in
+        let all : length c.going.read + length c.going.words ≡ length (run_words (start h.image h.words) u.b) + (length (run_words u.s c.steps) + length c.going.words) =
+        sym (length-append c.going.read c.going.words) ∙ ap length (h.stands.run.all ∙ run_words_are (start h.image h.words) u.b u.s u.reached ∙ ap (λ (ws : List ℕ). run_words (start h.image h.words) u.b ++ ws) ends.words_are)
+        ∙ length-append (run_words (start h.image h.words) u.b) (run_words u.s c.steps ++ c.going.words) ∙ ap (λ (n : ℕ). length (run_words (start h.image h.words) u.b) + n) (length-append (run_words u.s c.steps) c.going.words) in
         omega (arith, begins.1, all)
     go (inr over) = absurd (omega (arith, over.steps, some))
 

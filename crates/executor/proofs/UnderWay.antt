@@ -10,29 +10,29 @@ use Rattle.host_calls.specs.Meters.{Metered, with_step, has_room}
 use Rattle.rv_isa.specs.Registers.{AreRegisters}
 use Rattle.rv_step.specs.Machine.{State, Halted, step_of, foot_of, step_cost, full}
 use Rattle.rv_step.specs.Laws.{IsReady}
-use Rattle.rv_step.specs.Runs.{start, after, spent, touched, pages_at, IsOutcome}
+use Rattle.rv_step.specs.Runs.{start, after, run_cost, run_pages, pages_at, IsOutcome}
 use Rattle.rv_step.specs.declared.outcome.Outcome.{Outcome}
 use Rattle.rv_step.proofs.Runs.{step_back, after-add, spent_next}
 use Rattle.seal_replay.proofs.Chains.{start_ready}
-use Rattle.flat_machine.specs.Going.{Going, state_of, gone, gone_in, HaltsWith, Stands as IsRun, DoesOne, DoesNone, EndsSo}
-use Rattle.executor.specs.Segments.{Limits, is_fault, done_in, fits, segments}
-use Rattle.executor.specs.Proving.{used}
+use Rattle.flat_machine.specs.Going.{Going, flat_state, went_steps, went_steps_in, HaltsWith, IsRunOf, DoesOne, DoesNone, IsRunEnd}
+use Rattle.executor.specs.Segments.{Limits, is_fault, done_in, segment_fits, segments}
+use Rattle.executor.specs.Proving.{run_words}
 use Rattle.executor.specs.Laws.{AreLimits}
-use Rattle.executor.specs.Cutting.{Beginning, Cutting, BeginsAt, IsBegun, HasOutcome, IsUnderWay, IsOver, Stands, IsWhole, IsCutting, SameButBeginning}
+use Rattle.executor.specs.Cutting.{Beginning, Cutting, IsBeginning, IsBegun, HasOutcome, IsUnderWay, IsOver, CutsRun, IsWhole, IsCutting, SameButBeginning}
 use Rattle.executor.proofs.Ordered.{ascending_added}
 use Rattle.executor.proofs.Cutting.{run_ready, done_at_from, done_in_from, fits_none, fits_tells, spent_least, longest_is}
 use Rattle.executor.proofs.Covered.{one_fits, done_to_outcome}
-use Rattle.executor.proofs.Forward.{run_words}
+use Rattle.executor.proofs.Forward.{run_words_are}
 
 -- ---- where a run is
 -- where no step has halted, all went
-pub went_all : (g : Going) (image : Image) (words : List ℕ) → IsRun g image words → g.halted ≡ None → after (start image words) g.steps ≡ Some (state_of g)
-went_all g image words run on = ap (λ (o : Option ℕ). after (start image words) (gone_in g.steps o)) (sym on) ∙ run.reached
+pub went_all : (g : Going) (image : Image) (words : List ℕ) → IsRunOf g image words → g.halted ≡ None → after (start image words) g.steps ≡ Some (flat_state g)
+went_all g image words run on = ap (λ (o : Option ℕ). after (start image words) (went_steps_in g.steps o)) (sym on) ∙ run.reached
 
 -- ---- a beginning
-pub stands_new : (c : Cutting) (image : Image) (words : List ℕ) → IsRun c.going image words → c.going.steps ≡ 0 → c.number ≡ 0 → c.beginning ≡ None → c.steps ≡ 0
-    → c.meter.cost ≡ 0 → c.meter.touched ≡ [] → c.outcome ≡ None → Stands c image words
-unfolding after spent touched ascending
+pub stands_new : (c : Cutting) (image : Image) (words : List ℕ) → IsRunOf c.going image words → c.going.steps ≡ 0 → c.number ≡ 0 → c.beginning ≡ None → c.steps ≡ 0
+    → c.meter.cost ≡ 0 → c.meter.touched ≡ [] → c.outcome ≡ None → CutsRun c image words
+unfolding after run_cost run_pages ascending
 stands_new c image words run steps number beginning none cost pages outcome = record {
   run = run;
   segment = inl (record {
@@ -47,11 +47,11 @@ stands_new c image words run steps number beginning none cost pages outcome = re
     fewer = omega (arith, number);
     steps = omega (arith, steps, none);
     within = omega (arith, none);
-    fits = ap (fits c.limits (start image words)) none ∙ fits_none c.limits (start image words);
-    beginning = subst (λ (o : Option Beginning). BeginsAt (start image words) 0 (start image words) o) (sym beginning) tt;
+    fits = ap (segment_fits c.limits (start image words)) none ∙ fits_none c.limits (start image words);
+    beginning = subst (λ (o : Option Beginning). IsBeginning (start image words) 0 (start image words) o) (sym beginning) tt;
     begun = subst (λ (o : Option Beginning). IsBegun c.steps o) (sym beginning) none;
-    cost = cost ∙ ap (spent (start image words)) (sym none);
-    touched = pages ∙ ap (λ (n : ℕ). ascending (touched (start image words) n)) (sym none);
+    cost = cost ∙ ap (run_cost (start image words)) (sym none);
+    touched = pages ∙ ap (λ (n : ℕ). ascending (run_pages (start image words) n)) (sym none);
     outcome = subst (λ (o : Option Outcome). HasOutcome c.limits.limit (start image words) (0 + c.steps) o) (sym outcome) tt;
   });
 }
@@ -65,7 +65,7 @@ unhalted : (s : State) (n : ℕ) (o : Option ℕ) → n ≡ 0 → HaltsWith s n 
 unhalted s n None none halts = refl
 unhalted s n (Some code) none halts = absurd (omega (arith, none, halts.0))
 
-pub cutting_new : (c : Cutting) (image : Image) (words : List ℕ) → IsReady (start image words) → Stands c image words → c.going.steps ≡ 0 → c.going.cycles ≤ 257 * c.going.steps → c.number ≡ 0
+pub cutting_new : (c : Cutting) (image : Image) (words : List ℕ) → IsReady (start image words) → CutsRun c image words → c.going.steps ≡ 0 → c.going.cycles ≤ 257 * c.going.steps → c.number ≡ 0
     → AreLimits c.limits → c.meter.cycles ≡ c.limits.cycles → c.meter.pages ≡ c.limits.pages → IsCutting c
 cutting_new c image words ready stands steps most number limits cycles pages = record {
   image = image;
@@ -77,7 +77,7 @@ cutting_new c image words ready stands steps most number limits cycles pages = r
   pages = pages;
   number = omega (arith, number);
   within = omega (arith, most, steps);
-  halted = λ _. unhalted (state_of c.going) c.going.steps c.going.halted steps stands.run.halts;
+  halted = λ _. unhalted (flat_state c.going) c.going.steps c.going.halted steps stands.run.halts;
 }
 
 -- ---- the run alone is another value of the same steps
@@ -102,10 +102,10 @@ going_moved c g r same (inl u) = inl (record {
 })
 going_moved c g r same (inr o) = inr (record { number = o.number; steps = o.steps; outcome = o.outcome; told = o.told; ends = o.ends })
 
-pub stands_moved : (c : Cutting) (g : Going) (image : Image) (words : List ℕ) → g.steps ≡ c.going.steps → IsRun g image words → Stands c image words → Stands (record c { going = g }) image words
+pub stands_moved : (c : Cutting) (g : Going) (image : Image) (words : List ℕ) → g.steps ≡ c.going.steps → IsRunOf g image words → CutsRun c image words → CutsRun (record c { going = g }) image words
 stands_moved c g image words same run stands = record { run = run; segment = going_moved c g (start image words) same stands.segment }
 
-pub cutting_moved : (c : Cutting) (g : Going) → DoesNone c.going g → ((image : Image) (words : List ℕ) → IsRun c.going image words → IsRun g image words) → IsCutting c → IsCutting (record c { going = g })
+pub cutting_moved : (c : Cutting) (g : Going) → DoesNone c.going g → ((image : Image) (words : List ℕ) → IsRunOf c.going image words → IsRunOf g image words) → IsCutting c → IsCutting (record c { going = g })
 cutting_moved c g none run h = record {
   image = h.image;
   words = h.words;
@@ -121,16 +121,16 @@ cutting_moved c g none run h = record {
 
 -- ---- the beginning is held
 module _ (c : Cutting) (at : Beginning) (untold : c.outcome ≡ None) (on : c.going.halted ≡ None) (unheld : c.beginning ≡ None)
-    (pc : at.pc ≡ c.going.pc) (read : at.read ≡ length c.going.read) (stored : IsStoredFrom 0 at.tree) (memory : (a : ℕ) → memory_of at.tree a ≡ full (state_of c.going) a)
-    (image : Image) (words : List ℕ) (run : IsRun c.going image words) where
+    (pc : at.pc ≡ c.going.pc) (read : at.read ≡ length c.going.read) (stored : IsStoredFrom 0 at.tree) (memory : (a : ℕ) → memory_of at.tree a ≡ full (flat_state c.going) a)
+    (image : Image) (words : List ℕ) (run : IsRunOf c.going image words) where
   held : IsUnderWay (start image words) c ⊎ IsOver (start image words) c → IsUnderWay (start image words) (record c { beginning = Some at }) ⊎ IsOver (start image words) (record c { beginning = Some at })
   held (inl u) =
       let none : c.steps ≡ 0 = subst (λ (o : Option Beginning). IsBegun c.steps o) unheld u.begun in
       let first : c.going.steps ≡ u.b = omega (arith, u.steps, none) in
-      let here : state_of c.going ≡ u.s = same_Some _ _ (sym (went_all c.going image words run on) ∙ ap (after (start image words)) first ∙ u.reached) in
-      let all : words ≡ used (start image words) u.b ++ u.s.words = run_words (start image words) u.b u.s u.reached in
-      let sizes : length c.going.read + length c.going.words ≡ length (used (start image words) u.b) + length u.s.words =
-      sym (length-append c.going.read c.going.words) ∙ ap length (run.all ∙ all) ∙ length-append (used (start image words) u.b) u.s.words in
+      let here : flat_state c.going ≡ u.s = same_Some _ _ (sym (went_all c.going image words run on) ∙ ap (after (start image words)) first ∙ u.reached) in
+      let all : words ≡ run_words (start image words) u.b ++ u.s.words = run_words_are (start image words) u.b u.s u.reached in
+      let sizes : length c.going.read + length c.going.words ≡ length (run_words (start image words) u.b) + length u.s.words =
+      sym (length-append c.going.read c.going.words) ∙ ap length (run.all ∙ all) ∙ length-append (run_words (start image words) u.b) u.s.words in
       let rest : length c.going.words ≡ length u.s.words = ap (λ (s : State). length s.words) here in
       inl (record {
         b = u.b;
@@ -152,10 +152,10 @@ module _ (c : Cutting) (at : Beginning) (untold : c.outcome ≡ None) (on : c.go
       })
   held (inr o) = absurd (none-some o.outcome (sym untold ∙ o.told))
 
-  pub stands_begun : Stands c image words → Stands (record c { beginning = Some at }) image words
+  pub stands_begun : CutsRun c image words → CutsRun (record c { beginning = Some at }) image words
   stands_begun stands = record { run = run; segment = held stands.segment }
 
-pub cutting_begun : (c : Cutting) (at : Beginning) → c.outcome ≡ None → c.beginning ≡ None → at.pc ≡ c.going.pc → at.read ≡ length c.going.read → IsStoredFrom 0 at.tree → ((a : ℕ) → memory_of at.tree a ≡ full (state_of c.going) a)
+pub cutting_begun : (c : Cutting) (at : Beginning) → c.outcome ≡ None → c.beginning ≡ None → at.pc ≡ c.going.pc → at.read ≡ length c.going.read → IsStoredFrom 0 at.tree → ((a : ℕ) → memory_of at.tree a ≡ full (flat_state c.going) a)
     → IsCutting c → IsCutting (record c { beginning = Some at })
 cutting_begun c at untold unheld pc read stored memory h = record {
   image = h.image;
@@ -171,24 +171,24 @@ cutting_begun c at untold unheld pc read stored memory h = record {
 }
 
 -- ---- one step more
-touched-suc : (s : State) (n : ℕ) (u : State) → after s n ≡ Some u → touched s (suc n) ≡ touched s n ++ foot_of u
-unfolding touched
-touched-suc s n u here = ap (λ (o : Option State). touched s n ++ pages_at o) here
+touched-suc : (s : State) (n : ℕ) (u : State) → after s n ≡ Some u → run_pages s (suc n) ≡ run_pages s n ++ foot_of u
+unfolding run_pages
+touched-suc s n u here = ap (λ (o : Option State). run_pages s n ++ pages_at o) here
 
-touched_on : (s : State) (n : ℕ) (m : Metered) (u : State) → after s n ≡ Some u → m.touched ≡ ascending (touched s n) → ascending (touched s (suc n)) ≡ ascending (foot_of u ++ m.touched)
-touched_on s n m u here is = ap ascending (touched-suc s n u here) ∙ sym (ascending_added (touched s n) (foot_of u)) ∙ ap (λ (ps : List ℕ). ascending (foot_of u ++ ps)) (sym is)
+touched_on : (s : State) (n : ℕ) (m : Metered) (u : State) → after s n ≡ Some u → m.touched ≡ ascending (run_pages s n) → ascending (run_pages s (suc n)) ≡ ascending (foot_of u ++ m.touched)
+touched_on s n m u here is = ap ascending (touched-suc s n u here) ∙ sym (ascending_added (run_pages s n) (foot_of u)) ∙ ap (λ (ps : List ℕ). ascending (foot_of u ++ ps)) (sym is)
 
 -- a meter is within its limits with the next step exactly where the segment fits with it
-room_fits : (l : Limits) (s : State) (n : ℕ) (m : Metered) (u : State) → after s n ≡ Some u → m.cycles ≡ l.cycles → m.pages ≡ l.pages → m.cost ≡ spent s n → m.touched ≡ ascending (touched s n)
-    → fits l s (suc n) ≡ has_room (foot_of u) (step_cost u) m
-unfolding fits
+room_fits : (l : Limits) (s : State) (n : ℕ) (m : Metered) (u : State) → after s n ≡ Some u → m.cycles ≡ l.cycles → m.pages ≡ l.pages → m.cost ≡ run_cost s n → m.touched ≡ ascending (run_pages s n)
+    → segment_fits l s (suc n) ≡ has_room (foot_of u) (step_cost u) m
+unfolding segment_fits
 room_fits l s n m u here cycles pages cost pages_are =
     ap₂ (λ (a : Bool) (b : Bool). a && b)
     (ap₂ leb (spent_next s n u here ∙ ap (λ (c : ℕ). c + step_cost u) (sym cost)) (sym cycles))
     (ap₂ (λ (ps : List ℕ) (most : ℕ). leb (length ps) most) (touched_on s n m u here pages_are) (sym pages))
 
 -- an outcome's steps are all that are done
-pub has_outcome : (g : Going) (image : Image) (words : List ℕ) (limit : ℕ) (o : Outcome) → EndsSo g image words limit o → HasOutcome limit (start image words) g.steps (Some o)
+pub has_outcome : (g : Going) (image : Image) (words : List ℕ) (limit : ℕ) (o : Outcome) → IsRunEnd g image words limit o → HasOutcome limit (start image words) g.steps (Some o)
 has_outcome g image words limit o ends = (ends.ends, ends.steps ∙ sym (done_to_outcome limit (start image words) o ends.ends))
 
 begun_any : (n : ℕ) (o : Option Beginning) → IsTrue (is_some o) → IsBegun n o
@@ -198,44 +198,44 @@ begun_any n (Some at) h = tt
 pub some_not_none : {A : Type 0} {B : Type 0} → (x : A) (o : Option A) → o ≡ Some x → o ≡ None → B
 some_not_none x o is none = absurd (cc)
 
-module _ (g h : Going) (image : Image) (words : List ℕ) (limit : ℕ) (on : g.halted ≡ None) (run : IsRun g image words) (after_run : IsRun h image words) (one : DoesOne g h) (keeps : h.cycles ≤ limit) where
-  here : after (start image words) g.steps ≡ Some (state_of g)
+module _ (g h : Going) (image : Image) (words : List ℕ) (limit : ℕ) (on : g.halted ≡ None) (run : IsRunOf g image words) (after_run : IsRunOf h image words) (one : DoesOne g h) (keeps : h.cycles ≤ limit) where
+  here : after (start image words) g.steps ≡ Some (flat_state g)
   here = went_all g image words run on
 
-  no_fault : (o : Option ℕ) → h.halted ≡ o → is_fault (step_of (state_of g)) ≡ false
+  no_fault : (o : Option ℕ) → h.halted ≡ o → is_fault (step_of (flat_state g)) ≡ false
   no_fault None is =
-      let next : after (start image words) (suc g.steps) ≡ Some (state_of h) = ap (after (start image words)) (omega (arith, one.steps)) ∙ went_all h image words after_run is in
-      let (u, before, went) = step_back (start image words) g.steps (state_of h) next in
+      let next : after (start image words) (suc g.steps) ≡ Some (flat_state h) = ap (after (start image words)) (omega (arith, one.steps)) ∙ went_all h image words after_run is in
+      let (u, before, went) = step_back (start image words) g.steps (flat_state h) next in
       ap (λ (s : State). is_fault (step_of s)) (same_Some _ _ (sym here ∙ before)) ∙ ap is_fault went
   no_fault (Some code) is =
-      let halts : (1 ≤ h.steps) × (step_of (state_of h) ≡ Halted code) = subst (λ (o : Option ℕ). HaltsWith (state_of h) h.steps o) is after_run.halts in
-      let there : after (start image words) g.steps ≡ Some (state_of h) =
-      ap (after (start image words)) (omega (arith, one.steps)) ∙ ap (λ (o : Option ℕ). after (start image words) (gone_in h.steps o)) (sym is) ∙ after_run.reached in
+      let halts : (1 ≤ h.steps) × (step_of (flat_state h) ≡ Halted code) = subst (λ (o : Option ℕ). HaltsWith (flat_state h) h.steps o) is after_run.halts in
+      let there : after (start image words) g.steps ≡ Some (flat_state h) =
+      ap (after (start image words)) (omega (arith, one.steps)) ∙ ap (λ (o : Option ℕ). after (start image words) (went_steps_in h.steps o)) (sym is) ∙ after_run.reached in
       ap (λ (s : State). is_fault (step_of s)) (same_Some _ _ (sym here ∙ there)) ∙ ap is_fault halts.1
 
   -- so the step is done
   pub step_done : g.steps < done_in limit (start image words)
   step_done =
-      let all : spent (start image words) (suc g.steps) ≡ spent (start image words) g.steps + step_cost (state_of g) = spent_next (start image words) g.steps (state_of g) here in
-      let cost : h.cycles ≡ spent (start image words) (suc g.steps) = after_run.cost ∙ ap (spent (start image words)) (omega (arith, one.steps)) in
-      done_in_from limit (start image words) g.steps (done_at_from limit (spent (start image words) g.steps) _ (state_of g) here (omega (arith, all, cost, keeps)) (no_fault h.halted refl))
+      let all : run_cost (start image words) (suc g.steps) ≡ run_cost (start image words) g.steps + step_cost (flat_state g) = spent_next (start image words) g.steps (flat_state g) here in
+      let cost : h.cycles ≡ run_cost (start image words) (suc g.steps) = after_run.cost ∙ ap (run_cost (start image words)) (omega (arith, one.steps)) in
+      done_in_from limit (start image words) g.steps (done_at_from limit (run_cost (start image words) g.steps) _ (flat_state g) here (omega (arith, all, cost, keeps)) (no_fault h.halted refl))
 
 -- one step more of the segment, which fits, with the outcome if it ended the run
 abbrev pub stepped : Cutting → Going → Metered → Option Outcome → Cutting
 stepped c g m o = record c { going = g; steps = c.steps + 1; meter = m; outcome = o }
 
 module _ (c : Cutting) (g : Going) (m : Metered) (o : Option Outcome) (untold : c.outcome ≡ None) (on : c.going.halted ≡ None) (held : IsTrue (is_some c.beginning)) (one : DoesOne c.going g) (keeps : g.cycles ≤ c.limits.limit)
-    (cycles : c.meter.cycles ≡ c.limits.cycles) (pages : c.meter.pages ≡ c.limits.pages) (foot : List ℕ) (cost : ℕ) (foot_is : foot ≡ foot_of (state_of c.going)) (cost_is : cost ≡ step_cost (state_of c.going))
+    (cycles : c.meter.cycles ≡ c.limits.cycles) (pages : c.meter.pages ≡ c.limits.pages) (foot : List ℕ) (cost : ℕ) (foot_is : foot ≡ foot_of (flat_state c.going)) (cost_is : cost ≡ step_cost (flat_state c.going))
     (room : has_room foot cost c.meter ≡ true) (meter : m ≡ with_step foot cost c.meter) where
-  segment_stepped : (image : Image) (words : List ℕ) → IsRun c.going image words → IsRun g image words → HasOutcome c.limits.limit (start image words) g.steps o
+  segment_stepped : (image : Image) (words : List ℕ) → IsRunOf c.going image words → IsRunOf g image words → HasOutcome c.limits.limit (start image words) g.steps o
       → IsUnderWay (start image words) c ⊎ IsOver (start image words) c → IsUnderWay (start image words) (stepped c g m o) ⊎ IsOver (start image words) (stepped c g m o)
   segment_stepped image words run after_run told (inl u) =
-      let at : after u.s c.steps ≡ Some (state_of c.going) = sym (after-add (start image words) u.b c.steps u.s u.reached) ∙ ap (after (start image words)) (sym u.steps) ∙ went_all c.going image words run on in
+      let at : after u.s c.steps ≡ Some (flat_state c.going) = sym (after-add (start image words) u.b c.steps u.s u.reached) ∙ ap (after (start image words)) (sym u.steps) ∙ went_all c.going image words run on in
       let more : c.steps + 1 ≡ suc c.steps = omega arith in
       let total : g.steps ≡ u.b + (c.steps + 1) = omega (arith, one.steps, u.steps) in
       let done : c.going.steps < done_in c.limits.limit (start image words) = step_done c.going g image words c.limits.limit on run after_run one keeps in
-      let fitting : has_room (foot_of (state_of c.going)) (step_cost (state_of c.going)) c.meter ≡ true = ap₂ (λ (f : List ℕ) (n : ℕ). has_room f n c.meter) (sym foot_is) (sym cost_is) ∙ room in
-      let metered : m ≡ with_step (foot_of (state_of c.going)) (step_cost (state_of c.going)) c.meter = meter ∙ ap₂ (λ (f : List ℕ) (n : ℕ). with_step f n c.meter) foot_is cost_is in
+      let fitting : has_room (foot_of (flat_state c.going)) (step_cost (flat_state c.going)) c.meter ≡ true = ap₂ (λ (f : List ℕ) (n : ℕ). has_room f n c.meter) (sym foot_is) (sym cost_is) ∙ room in
+      let metered : m ≡ with_step (foot_of (flat_state c.going)) (step_cost (flat_state c.going)) c.meter = meter ∙ ap₂ (λ (f : List ℕ) (n : ℕ). with_step f n c.meter) foot_is cost_is in
       inl (record {
         b = u.b;
         s = u.s;
@@ -247,20 +247,20 @@ module _ (c : Cutting) (g : Going) (m : Metered) (o : Option Outcome) (untold : 
         fewer = u.fewer;
         steps = total;
         within = omega (arith, done, u.steps);
-        fits = ap (fits c.limits u.s) more ∙ room_fits c.limits u.s c.steps c.meter (state_of c.going) at cycles pages u.cost u.touched ∙ fitting;
+        fits = ap (segment_fits c.limits u.s) more ∙ room_fits c.limits u.s c.steps c.meter (flat_state c.going) at cycles pages u.cost u.touched ∙ fitting;
         beginning = u.beginning;
         begun = begun_any (c.steps + 1) c.beginning held;
-        cost = ap (λ (x : Metered). x.cost) metered ∙ ap (λ (n : ℕ). n + step_cost (state_of c.going)) u.cost ∙ sym (spent_next u.s c.steps (state_of c.going) at) ∙ ap (spent u.s) (sym more);
-        touched = ap (λ (x : Metered). x.touched) metered ∙ sym (ap (λ (n : ℕ). ascending (touched u.s n)) more ∙ touched_on u.s c.steps c.meter (state_of c.going) at u.touched);
+        cost = ap (λ (x : Metered). x.cost) metered ∙ ap (λ (n : ℕ). n + step_cost (flat_state c.going)) u.cost ∙ sym (spent_next u.s c.steps (flat_state c.going) at) ∙ ap (run_cost u.s) (sym more);
+        touched = ap (λ (x : Metered). x.touched) metered ∙ sym (ap (λ (n : ℕ). ascending (run_pages u.s n)) more ∙ touched_on u.s c.steps c.meter (flat_state c.going) at u.touched);
         outcome = subst (λ (n : ℕ). HasOutcome c.limits.limit (start image words) n o) total told;
       })
   segment_stepped image words run after_run told (inr over) = some_not_none over.outcome c.outcome over.told untold
 
-  pub stands_stepped : (image : Image) (words : List ℕ) → IsRun g image words → HasOutcome c.limits.limit (start image words) g.steps o → Stands c image words → Stands (stepped c g m o) image words
+  pub stands_stepped : (image : Image) (words : List ℕ) → IsRunOf g image words → HasOutcome c.limits.limit (start image words) g.steps o → CutsRun c image words → CutsRun (stepped c g m o) image words
   stands_stepped image words after_run told stands = record { run = after_run; segment = segment_stepped image words stands.run after_run told stands.segment }
 
-  pub cutting_stepped : ((image : Image) (words : List ℕ) → IsRun c.going image words → IsRun g image words)
-      → ((image : Image) (words : List ℕ) → IsRun c.going image words → HasOutcome c.limits.limit (start image words) g.steps o)
+  pub cutting_stepped : ((image : Image) (words : List ℕ) → IsRunOf c.going image words → IsRunOf g image words)
+      → ((image : Image) (words : List ℕ) → IsRunOf c.going image words → HasOutcome c.limits.limit (start image words) g.steps o)
       → (o ≡ None → g.halted ≡ None) → IsCutting c → IsCutting (stepped c g m o)
   cutting_stepped runs told off h = record {
     image = h.image;
@@ -301,11 +301,11 @@ module _ (c : Cutting) (g : Going) (o : Outcome) (untold : c.outcome ≡ None) (
   })
   segment_ended r told (inr over) = some_not_none over.outcome c.outcome over.told untold
 
-  pub stands_ended : (image : Image) (words : List ℕ) → IsRun g image words → HasOutcome c.limits.limit (start image words) g.steps (Some o) → Stands c image words → Stands (ended c g o) image words
+  pub stands_ended : (image : Image) (words : List ℕ) → IsRunOf g image words → HasOutcome c.limits.limit (start image words) g.steps (Some o) → CutsRun c image words → CutsRun (ended c g o) image words
   stands_ended image words run told stands = record { run = run; segment = segment_ended (start image words) told stands.segment }
 
-  pub cutting_ended : ((image : Image) (words : List ℕ) → IsRun c.going image words → IsRun g image words)
-      → ((image : Image) (words : List ℕ) → IsRun c.going image words → HasOutcome c.limits.limit (start image words) g.steps (Some o)) → IsCutting c → IsCutting (ended c g o)
+  pub cutting_ended : ((image : Image) (words : List ℕ) → IsRunOf c.going image words → IsRunOf g image words)
+      → ((image : Image) (words : List ℕ) → IsRunOf c.going image words → HasOutcome c.limits.limit (start image words) g.steps (Some o)) → IsCutting c → IsCutting (ended c g o)
   cutting_ended runs told h = record {
     image = h.image;
     words = h.words;
@@ -336,25 +336,25 @@ begins_here : (s t : State) (n : ℕ) → n ≡ 0 → after s n ≡ Some t → s
 unfolding after
 begins_here s t n none at = same_Some s t (ap (after s) (sym none) ∙ at)
 
-pub whole_full : (c : Cutting) → IsCutting c → c.outcome ≡ None → has_room (foot_of (state_of c.going)) (step_cost (state_of c.going)) c.meter ≡ false
-    → (image : Image) (words : List ℕ) → (run : IsRun c.going image words) → (segment : IsUnderWay (start image words) c ⊎ IsOver (start image words) c) → IsWhole (start image words) c segment
+pub whole_full : (c : Cutting) → IsCutting c → c.outcome ≡ None → has_room (foot_of (flat_state c.going)) (step_cost (flat_state c.going)) c.meter ≡ false
+    → (image : Image) (words : List ℕ) → (run : IsRunOf c.going image words) → (segment : IsUnderWay (start image words) c ⊎ IsOver (start image words) c) → IsWhole (start image words) c segment
 whole_full c h untold room image words run (inl u) =
-    let at : after u.s c.steps ≡ Some (state_of c.going) =
+    let at : after u.s c.steps ≡ Some (flat_state c.going) =
     sym (after-add (start image words) u.b c.steps u.s u.reached) ∙ ap (after (start image words)) (sym u.steps) ∙ went_all c.going image words run (h.halted untold) in
-    let over : fits c.limits u.s (suc c.steps) ≡ false = room_fits c.limits u.s c.steps c.meter (state_of c.going) at h.cycles h.pages u.cost u.touched ∙ room in
-    let ready : IsReady (state_of c.going) = run_ready (start h.image h.words) (gone c.going) (state_of c.going) h.ready h.stands.run.reached in
-    let one : fits c.limits (state_of c.going) 1 ≡ true = one_fits c.limits (state_of c.going) h.limits ready.aligned in
+    let over : segment_fits c.limits u.s (suc c.steps) ≡ false = room_fits c.limits u.s c.steps c.meter (flat_state c.going) at h.cycles h.pages u.cost u.touched ∙ room in
+    let ready : IsReady (flat_state c.going) = run_ready (start h.image h.words) (went_steps c.going) (flat_state c.going) h.ready h.stands.run.reached in
+    let one : segment_fits c.limits (flat_state c.going) 1 ≡ true = one_fits c.limits (flat_state c.going) h.limits ready.aligned in
     record {
       longest = longest_is c.limits u.s c.steps (done_in c.limits.limit (start image words) - u.b) u.fits (omega (arith, u.within)) (inr over);
       ended = λ none.
-          absurd (true≢false (sym one ∙ ap (λ (s : State). fits c.limits s 1) (sym (begins_here u.s (state_of c.going) c.steps none at)) ∙ ap (λ (n : ℕ). fits c.limits u.s (suc n)) (sym none) ∙ over));
+          absurd (true≢false (sym one ∙ ap (λ (s : State). segment_fits c.limits s 1) (sym (begins_here u.s (flat_state c.going) c.steps none at)) ∙ ap (λ (n : ℕ). segment_fits c.limits u.s (suc n)) (sym none) ∙ over));
     }
 whole_full c h untold room image words run (inr over) = some_not_none over.outcome c.outcome over.told untold
 
-pub room_at : (c d : Cutting) → c ≡ d → (foot : List ℕ) (cost : ℕ) (v : Bool) → foot ≡ foot_of (state_of c.going) → cost ≡ step_cost (state_of c.going) → has_room foot cost c.meter ≡ v
-    → has_room (foot_of (state_of d.going)) (step_cost (state_of d.going)) d.meter ≡ v
+pub room_at : (c d : Cutting) → c ≡ d → (foot : List ℕ) (cost : ℕ) (v : Bool) → foot ≡ foot_of (flat_state c.going) → cost ≡ step_cost (flat_state c.going) → has_room foot cost c.meter ≡ v
+    → has_room (foot_of (flat_state d.going)) (step_cost (flat_state d.going)) d.meter ≡ v
 room_at c d same foot cost v foot_is cost_is room =
-    subst (λ (x : Cutting). has_room (foot_of (state_of x.going)) (step_cost (state_of x.going)) x.meter ≡ v) same (ap₂ (λ (f : List ℕ) (n : ℕ). has_room f n c.meter) (sym foot_is) (sym cost_is) ∙ room)
+    subst (λ (x : Cutting). has_room (foot_of (flat_state x.going)) (step_cost (flat_state x.going)) x.meter ≡ v) same (ap₂ (λ (f : List ℕ) (n : ℕ). has_room f n c.meter) (sym foot_is) (sym cost_is) ∙ room)
 
 -- a segment has at most as many steps as it may cost
 pub few_steps : (c : Cutting) → IsCutting c → c.outcome ≡ None → c.steps ≤ 16777216
@@ -362,9 +362,9 @@ few_steps c h untold = go h.stands.segment
   where
     go : IsUnderWay (start h.image h.words) c ⊎ IsOver (start h.image h.words) c → c.steps ≤ 16777216
     go (inl u) =
-        let at : after u.s c.steps ≡ Some (state_of c.going) =
+        let at : after u.s c.steps ≡ Some (flat_state c.going) =
         sym (after-add (start h.image h.words) u.b c.steps u.s u.reached) ∙ ap (after (start h.image h.words)) (sym u.steps) ∙ went_all c.going h.image h.words h.stands.run (h.halted untold) in
-        omega (arith, spent_least u.s c.steps (state_of c.going) at, (fits_tells c.limits u.s c.steps u.fits).0, h.limits.most_cycles)
+        omega (arith, spent_least u.s c.steps (flat_state c.going) at, (fits_tells c.limits u.s c.steps u.fits).0, h.limits.most_cycles)
     go (inr over) = some_not_none over.outcome c.outcome over.told untold
 
 -- ---- an executor before a step that fits
@@ -374,8 +374,8 @@ pub record IsBefore (c : Cutting) (foot : List ℕ) (cost : ℕ) : Type 0 where
   pub on : c.going.halted ≡ None
   pub held : IsTrue (is_some c.beginning)
   pub cutting : IsCutting c
-  pub foot_is : foot ≡ foot_of (state_of c.going)
-  pub cost_is : cost ≡ step_cost (state_of c.going)
+  pub foot_is : foot ≡ foot_of (flat_state c.going)
+  pub cost_is : cost ≡ step_cost (flat_state c.going)
   pub room : has_room foot cost c.meter ≡ true
 
 abbrev pub with_meter : Cutting → Metered → Cutting
@@ -392,7 +392,7 @@ module _ (i old j mid : Cutting) (m : Metered) (is_old : i ≡ old) (is_mid : j 
   outcome_is : j.outcome ≡ i.outcome
   outcome_is = ap (λ (x : Cutting). x.outcome) is_mid ∙ same.outcome ∙ ap (λ (x : Cutting). x.outcome) (sym is_old)
 
-  pub before : (foot : List ℕ) (cost : ℕ) → IsTrue (is_some mid.beginning) → IsCutting j → i.outcome ≡ None → foot ≡ foot_of (state_of i.going) → cost ≡ step_cost (state_of i.going) → has_room foot cost i.meter ≡ true
+  pub before : (foot : List ℕ) (cost : ℕ) → IsTrue (is_some mid.beginning) → IsCutting j → i.outcome ≡ None → foot ≡ foot_of (flat_state i.going) → cost ≡ step_cost (flat_state i.going) → has_room foot cost i.meter ≡ true
       → IsBefore (with_meter j m) foot cost
   before foot cost held h none foot_is cost_is room =
       let untold : j.outcome ≡ None = outcome_is ∙ none in
@@ -401,14 +401,14 @@ module _ (i old j mid : Cutting) (m : Metered) (is_old : i ≡ old) (is_mid : j 
         on = h.halted untold;
         held = ap (λ (x : Cutting). is_some x.beginning) is_mid ∙ held;
         cutting = subst (λ (x : Metered). IsCutting (with_meter j x)) (sym metered) h;
-        foot_is = foot_is ∙ ap (λ (x : Going). foot_of (state_of x)) (sym going_is);
-        cost_is = cost_is ∙ ap (λ (x : Going). step_cost (state_of x)) (sym going_is);
+        foot_is = foot_is ∙ ap (λ (x : Going). foot_of (flat_state x)) (sym going_is);
+        cost_is = cost_is ∙ ap (λ (x : Going). step_cost (flat_state x)) (sym going_is);
         room = ap (has_room foot cost) meter_is ∙ room;
       }
 
-  pub stands_before : (image : Image) (words : List ℕ) → Stands mid image words → Stands (with_meter j m) image words
+  pub stands_before : (image : Image) (words : List ℕ) → CutsRun mid image words → CutsRun (with_meter j m) image words
   stands_before image words stands =
-      subst (λ (x : Metered). Stands (with_meter j x) image words) (sym metered) (subst (λ (x : Cutting). Stands x image words) (sym is_mid) stands)
+      subst (λ (x : Metered). CutsRun (with_meter j x) image words) (sym metered) (subst (λ (x : Cutting). CutsRun x image words) (sym is_mid) stands)
 
 -- the state of a run is told by no outcome
 pub none_told : (limit : ℕ) (r : State) (n : ℕ) (o : Option Outcome) → o ≡ None → HasOutcome limit r n o

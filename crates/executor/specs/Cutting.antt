@@ -8,15 +8,16 @@ use Rattle.page_core.specs.Stored.{Stored, IsStoredFrom, memory_of}
 use Rattle.host_calls.specs.Meters.{Metered}
 use Rattle.rv_step.specs.Machine.{State, full}
 use Rattle.rv_step.specs.Laws.{IsReady}
-use Rattle.rv_step.specs.Runs.{start, after, spent, touched, IsOutcome}
+use Rattle.rv_step.specs.Runs.{start, after, run_cost, run_pages, IsOutcome}
 use Rattle.rv_step.specs.declared.outcome.Outcome.{Outcome}
 use Rattle.receipt_types.specs.Seals.{Seal, seal_code}
 use Rattle.receipt_types.specs.Limits.{SealLimits}
-use Rattle.flat_machine.specs.Going.{Going, Stands as IsRun}
+use Rattle.flat_machine.specs.Going.{Going, IsRunOf}
 use Rattle.seal_replay.specs.Replay.{stop_of}
-use Rattle.executor.specs.Segments.{Limits, done_in, fits, longest, segments, lengths, total}
-use Rattle.executor.specs.Proving.{used}
+use Rattle.executor.specs.Segments.{Limits, done_in, segment_fits, longest, segments, lengths, total}
+use Rattle.executor.specs.Proving.{run_words}
 use Rattle.executor.specs.Laws.{AreLimits}
+use Rattle.receipt_types.specs.declared.sizes.TheConstants.{MOST_SEALS}
 
 -- ---- a cut: the number of its segment, and the segment's seal
 pub record Cut : Type 0 where
@@ -51,9 +52,9 @@ pub record Cutting : Type 0 where
   pub outcome : Option Outcome
 
 -- it is the beginning of the segment after b steps of the run from r, in the state s
-abbrev pub BeginsAt : State → ℕ → State → Option Beginning → Type 0
-BeginsAt r b s None = ⊤
-BeginsAt r b s (Some at) = (at.pc ≡ s.pc) × (at.read ≡ length (used r b)) × IsStoredFrom 0 at.tree × ((a : ℕ) → memory_of at.tree a ≡ full s a)
+abbrev pub IsBeginning : State → ℕ → State → Option Beginning → Type 0
+IsBeginning r b s None = ⊤
+IsBeginning r b s (Some at) = (at.pc ≡ s.pc) × (at.read ≡ length (run_words r b)) × IsStoredFrom 0 at.tree × ((a : ℕ) → memory_of at.tree a ≡ full s a)
 
 -- the beginning is held where a step was done
 abbrev pub IsBegun : ℕ → Option Beginning → Type 0
@@ -77,11 +78,11 @@ pub record IsUnderWay (r : State) (c : Cutting) : Type 0 where
   pub fewer : c.number ≤ b
   pub steps : c.going.steps ≡ b + c.steps
   pub within : b + c.steps ≤ done_in c.limits.limit r
-  pub fits : fits c.limits s c.steps ≡ true
-  pub beginning : BeginsAt r b s c.beginning
+  pub fits : segment_fits c.limits s c.steps ≡ true
+  pub beginning : IsBeginning r b s c.beginning
   pub begun : IsBegun c.steps c.beginning
-  pub cost : c.meter.cost ≡ spent s c.steps
-  pub touched : c.meter.touched ≡ ascending (touched s c.steps)
+  pub cost : c.meter.cost ≡ run_cost s c.steps
+  pub touched : c.meter.touched ≡ ascending (run_pages s c.steps)
   pub outcome : HasOutcome c.limits.limit r (b + c.steps) c.outcome
 
 -- all its segments were given
@@ -93,8 +94,8 @@ pub record IsOver (r : State) (c : Cutting) : Type 0 where
   pub ends : IsOutcome r c.limits.limit outcome
 
 -- it cuts the run of an image and input words
-pub record Stands (c : Cutting) (image : Image) (words : List ℕ) : Type 0 where
-  pub run : IsRun c.going image words
+pub record CutsRun (c : Cutting) (image : Image) (words : List ℕ) : Type 0 where
+  pub run : IsRunOf c.going image words
   pub segment : IsUnderWay (start image words) c ⊎ IsOver (start image words) c
 
 -- the segment that is under way is as long as can be: where it has no step, the run has ended
@@ -111,11 +112,11 @@ pub record IsCutting (c : Cutting) : Type 0 where
   pub image : Image
   pub words : List ℕ
   pub ready : IsReady (start image words)
-  pub stands : Stands c image words
+  pub stands : CutsRun c image words
   pub limits : AreLimits c.limits
   pub cycles : c.meter.cycles ≡ c.limits.cycles
   pub pages : c.meter.pages ≡ c.limits.pages
-  pub number : c.number ≤ 65535
+  pub number : c.number ≤ MOST_SEALS
   pub within : c.going.cycles ≤ c.limits.limit
   pub halted : c.outcome ≡ None → c.going.halted ≡ None
 

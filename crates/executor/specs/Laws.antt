@@ -10,24 +10,25 @@ use Rattle.receipt_types.specs.Limits.{AllSealLimits}
 use Rattle.seal_replay.specs.Replay.{stop_of}
 use Rattle.seal_replay.specs.Claiming.{claim_of}
 use Rattle.executor.specs.Segments.{Limits, done_in, lengths, total}
-use Rattle.executor.specs.Proving.{seal_from, cut_seals, Ends, HasClaim}
+use Rattle.executor.specs.Proving.{seal_from, cut_seals, EndsAfter, HasClaim}
+use Rattle.rv_step.specs.declared.limits.TheConstants.{CYCLES_MIN, CYCLES_MAX, PAGES_MIN, PAGES_MAX, LIMIT_MAX}
 
 -- the smallest bounds that are allowed hold every step
 pub record AreLimits (l : Limits) : Type 0 where
-  pub least_cycles : 512 ≤ l.cycles
-  pub most_cycles : l.cycles ≤ 16777216
-  pub least_pages : 8 ≤ l.pages
-  pub most_pages : l.pages ≤ 4096
+  pub least_cycles : CYCLES_MIN ≤ l.cycles
+  pub most_cycles : l.cycles ≤ CYCLES_MAX
+  pub least_pages : PAGES_MIN ≤ l.pages
+  pub most_pages : l.pages ≤ PAGES_MAX
   pub least_limit : 1 ≤ l.limit
-  pub most_limit : l.limit ≤ 67108864
+  pub most_limit : l.limit ≤ LIMIT_MAX
 
 -- the seal of a stretch of a run replays without a stop
 abbrev pub StretchesReplay : (List ℕ → List ℕ) → Type 0
-StretchesReplay H = (s : State) (n : ℕ) (exit : Exit) (z : State) → IsReady s → 0 < n → Ends s n exit z → stop_of (seal_from H s n) ≡ None
+StretchesReplay H = (s : State) (n : ℕ) (exit : Exit) (z : State) → IsReady s → 0 < n → EndsAfter s n exit z → stop_of (seal_from H s n) ≡ None
 
 -- and claims what the run does there
 abbrev pub StretchesClaim : (List ℕ → List ℕ) → Type 0
-StretchesClaim H = (s : State) (n : ℕ) (exit : Exit) (z : State) → IsReady s → 0 < n → Ends s n exit z → HasClaim H (claim_of H (seal_from H s n)) s exit z
+StretchesClaim H = (s : State) (n : ℕ) (exit : Exit) (z : State) → IsReady s → 0 < n → EndsAfter s n exit z → HasClaim H (claim_of H (seal_from H s n)) s exit z
 
 -- no stretch is empty
 abbrev pub AreLengths : List ℕ → Type 0

@@ -8,7 +8,7 @@ use Rattle.host_calls.specs.Calls.{takes}
 use Rattle.rv_step.specs.declared.act.Act.{Act}
 use Rattle.rv_step.specs.declared.act.Act.TheVariants.{Sets, Loads, Stores, Does, Faults}
 use Rattle.rv_step.specs.Machine.{State, Halted, act, step_of, full}
-use Rattle.rv_step.specs.Runs.{after, touched}
+use Rattle.rv_step.specs.Runs.{after, run_pages}
 use Rattle.claim_types.specs.declared.state.State.{State as SystemState}
 use Rattle.claim_types.specs.declared.claim.Exit.{Exit}
 use Rattle.claim_types.specs.declared.claim.Exit.TheVariants.{Split, Halted as HaltedWith}
@@ -16,31 +16,32 @@ use Rattle.claim_types.specs.States.{halted_state}
 use Rattle.claim_types.specs.Claims.{SpanClaim}
 use Rattle.receipt_types.specs.Seals.{Seal}
 use Rattle.executor.specs.Segments.{Limits, lengths}
+use Rattle.part_tree.specs.declared.sizes.TheConstants.{HEIGHT}
 
 -- how many words a step reads
-abbrev pub taken : Act → ℕ
-taken (Sets pc rd v) = 0
-taken (Loads op rd a) = 0
-taken (Stores op a v) = 0
-taken (Does call) = takes call
-taken (Faults fault) = 0
+abbrev pub words_taken : Act → ℕ
+words_taken (Sets pc rd v) = 0
+words_taken (Loads op rd a) = 0
+words_taken (Stores op a v) = 0
+words_taken (Does call) = takes call
+words_taken (Faults fault) = 0
 
 -- which
 unfoldable pub read_by : State → List ℕ
-read_by s = take (taken (act s)) s.words
+read_by s = take (words_taken (act s)) s.words
 
 abbrev pub read_at : Option State → List ℕ
 read_at (Some s) = read_by s
 read_at None = []
 
 -- the words that n steps from s read
-unfoldable pub used : State → ℕ → List ℕ
-used s zero = []
-used s (suc n) = used s n ++ read_at (after s n)
+unfoldable pub run_words : State → ℕ → List ℕ
+run_words s zero = []
+run_words s (suc n) = run_words s n ++ read_at (after s n)
 
 -- the seal of n steps from s: their words, and the tree of the memory and registers with their footprints open
 abbrev pub seal_from : (List ℕ → List ℕ) → State → ℕ → Seal
-seal_from H s n = record { pc = s.pc; steps = n; words = used s n; tree = part_of H (page_of (full s)) (ascending (touched s n)) 18 0 }
+seal_from H s n = record { pc = s.pc; steps = n; words = run_words s n; tree = part_of H (page_of (full s)) (ascending (run_pages s n)) HEIGHT 0 }
 
 -- the seals of a run from s cut into stretches of these lengths
 abbrev pub seals_from : (List ℕ → List ℕ) → Option State → List ℕ → List Seal
@@ -54,21 +55,21 @@ cut_seals H l s = seals_from H (Some s) (lengths l s)
 
 -- ---- what a seal claims of a run
 -- how n steps from s end: in the state z, or by a halt in it
-abbrev pub Ends : State → ℕ → Exit → State → Type 0
-Ends s n Split z = after s n ≡ Some z
-Ends s n (HaltedWith code) z = (after s (n - 1) ≡ Some z) × (step_of z ≡ Halted code)
+abbrev pub EndsAfter : State → ℕ → Exit → State → Type 0
+EndsAfter s n Split z = after s n ≡ Some z
+EndsAfter s n (HaltedWith code) z = (after s (n - 1) ≡ Some z) × (step_of z ≡ Halted code)
 
 -- a state of the machine as a state of the system
-abbrev pub state_of : (List ℕ → List ℕ) → State → SystemState
-state_of H s = record { pc = s.pc; root = root H (page_of (full s)) }
+abbrev pub system_state : (List ℕ → List ℕ) → State → SystemState
+system_state H s = record { pc = s.pc; root = root H (page_of (full s)) }
 
 abbrev pub end_state : (List ℕ → List ℕ) → Exit → State → SystemState
-end_state H Split z = state_of H z
+end_state H Split z = system_state H z
 end_state H (HaltedWith code) z = halted_state
 
 -- the claim says what a run from s that ends so does
 pub record ClaimsRun (H : List ℕ → List ℕ) (claim : SpanClaim) (s : State) (exit : Exit) (z : State) : Type 0 where
-  pub before : claim.before ≡ state_of H s
+  pub before : claim.before ≡ system_state H s
   pub after : claim.after ≡ end_state H exit z
   pub exit_is : claim.exit ≡ exit
   pub journal : s.journal ++ claim.journal ≡ z.journal

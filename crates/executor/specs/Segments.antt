@@ -2,7 +2,7 @@
 use Rattle.std.specs.Prelude.{ℕ, zero, suc, ◌+◌, ◌-◌, Bool, true, false, cond, ◌&&◌, leb, eqb, List, [], ◌∷◌, length, Option, Some, None}
 use Rattle.page_core.specs.Memory.{ascending}
 use Rattle.rv_step.specs.Machine.{State, Event, Went, Halted, Faulted, step_of, step_cost}
-use Rattle.rv_step.specs.Runs.{after, spent, touched}
+use Rattle.rv_step.specs.Runs.{after, run_cost, run_pages}
 
 -- the most that a segment costs and the most pages that it touches, and the limit on the cost of the whole run
 pub record Limits : Type 0 where
@@ -32,7 +32,7 @@ is_done_at limit c None = false
 -- whether the n-th step from s is done, counted from 1
 abbrev pub is_nth_done : ℕ → State → ℕ → Bool
 is_nth_done limit s zero = false
-is_nth_done limit s (suc n) = is_done_at limit (spent s n) (after s n)
+is_nth_done limit s (suc n) = is_done_at limit (run_cost s n) (after s n)
 
 -- how many steps from s are done, each of which costs at least 1: those before the run's outcome, and the one that halts
 abbrev pub done_in : ℕ → State → ℕ
@@ -40,12 +40,12 @@ done_in limit s = greatest (is_nth_done limit s) limit
 
 -- ---- the segments
 -- n steps from s fit into a segment
-unfoldable pub fits : Limits → State → ℕ → Bool
-fits l s n = leb (spent s n) l.cycles && leb (length (ascending (touched s n))) l.pages
+unfoldable pub segment_fits : Limits → State → ℕ → Bool
+segment_fits l s n = leb (run_cost s n) l.cycles && leb (length (ascending (run_pages s n))) l.pages
 
 -- the greatest number of steps from s, at most n, that fit
 abbrev pub longest : Limits → State → ℕ → ℕ
-longest l s n = greatest (fits l s) n
+longest l s n = greatest (segment_fits l s) n
 
 -- the lengths of the segments of n steps, at most `most` of them
 unfoldable pub segments : Limits → ℕ → Option State → ℕ → List ℕ

@@ -6,7 +6,7 @@ ghost use Rattle.rv_step.specs.Runs.{start};
 ghost use Rattle.host_calls.specs.Meters.{with_step, has_room};
 ghost use Rattle.receipt_types.specs.Bundles.{item};
 ghost use Rattle.executor.specs.Proving.{cut_seals};
-ghost use Rattle.executor.specs.Cutting.{Stands, IsWhole, SameButBeginning};
+ghost use Rattle.executor.specs.Cutting.{CutsRun, IsWhole, SameButBeginning};
 ghost use Rattle.executor.specs.Giving.{Gives};
 
 use crate::cut::Cut;
@@ -17,14 +17,11 @@ use elf_image::Image;
 use flat_machine::Flat;
 use host_calls::Meter;
 use page_tree::PageTree;
-use receipt_types::Seal;
+use receipt_types::{MOST_SEALS, Seal};
 use rv_step::{Looked, Outcome};
 use std::alloc::{AllocError, Global};
 use std::marker::Model;
 use std::sync::Arc;
-
-// The most cuts of a run.
-const MOST_CUTS: u32 = 65_535;
 
 /// What an executor gives next.
 #[derive(Drop)]
@@ -54,7 +51,7 @@ impl<D: Digester> Model for Beginning<D> {
 }
 
 /// The run of an image and input words under limits, and how far it is cut. Contracts see the run, the limits, how many
-/// cuts were given, and the segment that is under way; `Stands` says that these are the cuts of the run of an image and
+/// cuts were given, and the segment that is under way; `CutsRun` says that these are the cuts of the run of an image and
 /// words.
 ///
 /// A call that is refused for want of memory leaves it after some further steps of the same segment, and may be repeated.
@@ -130,7 +127,7 @@ impl<D: Digester> Executor<D> {
     ) -> Result<Executor<D>, AllocError>
         ensures start { IfOk result (λ executor. executor.number ≡ 0) }
         ensures limits { IfOk result (λ executor. executor.limits ≡ limits) }
-        ensures stands { IfOk result (λ executor. Stands executor (image_of image) words.items) }
+        ensures stands { IfOk result (λ executor. CutsRun executor (image_of image) words.items) }
     {
         let mut flat = Flat::new(alloc, image, words);
         flat.lift()?;
@@ -149,8 +146,8 @@ impl<D: Digester> Executor<D> {
     /// The next segment of the run; or the run's outcome, where none is left; or that there are more than 65,535. Each call
     /// after an outcome, and each after TooManySeals, answers the same.
     pub fn next(&mut self) -> Result<Next<D>, AllocError>
-        ensures stands { (image : PlainImage) (words : List ℕ) → Stands self.old image words → Stands self.new image words }
-        ensures gives { IfOk result (λ next. (image : PlainImage) (words : List ℕ) → Stands self.old image words → Gives D.digest_of self.old.limits (start image words) self.old.number self.new.number next) }
+        ensures stands { (image : PlainImage) (words : List ℕ) → CutsRun self.old image words → CutsRun self.new image words }
+        ensures gives { IfOk result (λ next. (image : PlainImage) (words : List ℕ) → CutsRun self.old image words → Gives D.digest_of self.old.limits (start image words) self.old.number self.new.number next) }
         ensures limits { self.new.limits ≡ self.old.limits }
         ensures refused { OnErr result (self.new.number ≡ self.old.number) }
     {
@@ -161,7 +158,7 @@ impl<D: Digester> Executor<D> {
                 None => unreachable!(),
             }
         }
-        if self.number == MOST_CUTS {
+        if self.number == MOST_SEALS {
             return Ok(Next::TooManySeals);
         }
         let cut = self.cut()?;
@@ -175,10 +172,10 @@ impl<D: Digester> Executor<D> {
     // Does the next step, where it belongs to the segment that is under way and the run goes on after it; else the segment
     // is whole.
     fn advance(&mut self) -> Result<bool, AllocError>
-        ensures stands { (image : PlainImage) (words : List ℕ) → Stands self.old image words → Stands self.new image words }
+        ensures stands { (image : PlainImage) (words : List ℕ) → CutsRun self.old image words → CutsRun self.new image words }
         ensures same { (self.new.limits ≡ self.old.limits) × (self.new.number ≡ self.old.number) }
         ensures went { IfOk result (λ went. IsTrue went → (self.old.going.cycles < self.new.going.cycles) × (self.new.going.cycles ≤ self.new.limits.limit)) }
-        ensures whole { IfOk result (λ went. IsFalse went → (image : PlainImage) (words : List ℕ) → (stands : Stands self.new image words) → IsWhole (start image words) self.new stands.segment) }
+        ensures whole { IfOk result (λ went. IsFalse went → (image : PlainImage) (words : List ℕ) → (stands : CutsRun self.new image words) → IsWhole (start image words) self.new stands.segment) }
     {
         if self.outcome.is_some() {
             return Ok(false);
@@ -215,7 +212,7 @@ impl<D: Digester> Executor<D> {
     // Holds the beginning of the segment, if it isn't held yet: then no step of it was done.
     fn begin(&mut self) -> Result<(), AllocError>
         requires { self.old.outcome ≡ None }
-        ensures stands { (image : PlainImage) (words : List ℕ) → Stands self.old image words → Stands self.new image words }
+        ensures stands { (image : PlainImage) (words : List ℕ) → CutsRun self.old image words → CutsRun self.new image words }
         ensures same { SameButBeginning self.old self.new }
         ensures begun { OnOk result (IsTrue (is_some self.new.beginning)) }
     {
@@ -234,9 +231,9 @@ impl<D: Digester> Executor<D> {
     // The cut of the segment that is under way, which is whole and has a step.
     fn cut(&self) -> Result<Arc<Cut<D>, Global>, AllocError>
         requires some { 1 ≤ self.now.steps }
-        requires whole { (image : PlainImage) (words : List ℕ) → (stands : Stands self.now image words) → IsWhole (start image words) self.now stands.segment }
+        requires whole { (image : PlainImage) (words : List ℕ) → (stands : CutsRun self.now image words) → IsWhole (start image words) self.now stands.segment }
         ensures number { IfOk result (λ cut. (arc_value cut).number ≡ self.now.number) }
-        ensures seal { IfOk result (λ cut. (image : PlainImage) (words : List ℕ) → Stands self.now image words → item (cut_seals D.digest_of self.now.limits (start image words)) self.now.number ≡ Some (arc_value cut).seal) }
+        ensures seal { IfOk result (λ cut. (image : PlainImage) (words : List ℕ) → CutsRun self.now image words → item (cut_seals D.digest_of self.now.limits (start image words)) self.now.number ≡ Some (arc_value cut).seal) }
     {
         let Some(beginning) = &self.beginning else {
             unreachable!();

@@ -9,4 +9,4 @@ mod limits;
 pub use cut::Cut;
 pub use executor::{Executor, Next};
 pub use laws::{cuts_keep_limits, segments_cover, stretches_replay};
-pub use limits::Limits;
+pub use limits::{DEFAULT_CYCLES, DEFAULT_LIMIT, DEFAULT_PAGES, Limits};

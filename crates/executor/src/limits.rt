@@ -1,7 +1,17 @@
 ghost use Rattle.std.specs.Prelude.{◌≡◌, IfSome, IfNone};
 ghost use Rattle.executor.specs.Laws.{AreLimits};
 
+use rv_step::{CYCLES_MAX, CYCLES_MIN, LIMIT_MAX, PAGES_MAX, PAGES_MIN};
 use std::marker::Model;
+
+/// The limit on the cost of a segment where none is asked for.
+pub const DEFAULT_CYCLES: u32 = 1_048_576;
+
+/// The limit on the distinct pages that a segment touches where none is asked for.
+pub const DEFAULT_PAGES: u32 = 1_024;
+
+/// The limit on the cost of a whole run where none is asked for.
+pub const DEFAULT_LIMIT: u64 = 16_777_216;
 
 /// The most that a segment costs, 512 to 16,777,216, the most pages that it touches, 8 to 4,096, and the most that a whole
 /// run costs, 1 to 67,108,864. Contracts see the three numbers.
@@ -31,10 +41,10 @@ impl Limits {
         ensures some { IfSome result (λ limits. limits ≡ record { cycles = cycles; pages = pages; limit = limit }) }
         ensures none { IfNone result (AreLimits (record { cycles = cycles; pages = pages; limit = limit }) → ⊥) }
     {
-        if cycles < 512 || cycles > 16_777_216 || pages < 8 || pages > 4_096 {
+        if cycles < CYCLES_MIN || cycles > CYCLES_MAX || pages < PAGES_MIN || pages > PAGES_MAX {
             return None;
         }
-        if limit < 1 || limit > 67_108_864 {
+        if limit < 1 || limit > LIMIT_MAX {
             return None;
         }
         Some(Limits {

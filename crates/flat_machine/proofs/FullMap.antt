@@ -12,23 +12,23 @@ use Rattle.page_core.specs.Stored.{Stored, stored_at, first_from, memory_of}
 use Rattle.rv_step.specs.Machine.{full_of}
 use Rattle.rv_step.specs.Opened.{page_in}
 use Rattle.rv_step.proofs.Words.{none_put, full_up_to, one_more_full, all_full}
-use Rattle.flat_machine.specs.Layers.{Layers, layered, memory_in}
+use Rattle.flat_machine.specs.Layers.{Layers, layer_page, memory_in}
 
 -- ---- the pages
 -- the pages below n are in the map, and no others
 pub record ArePut (m : Layers) (map : Stored) (n : ℕ) : Type 0 where
-  pub below : (k : ℕ) → k < n → stored_at map k ≡ layered m k
+  pub below : (k : ℕ) → k < n → stored_at map k ≡ layer_page m k
   pub others : (k : ℕ) → n ≤ k → stored_at map k ≡ None
 
 -- all pages of a memory that is zero from its end on and has none from this number on
-pub put_all : (m : Layers) (map : Stored) (n : ℕ) → n ≤ 262144 → ((k : ℕ) → n ≤ k → k < 262144 → layered m k ≡ None) → ArePut m map n → ((a : ℕ) → 268435456 ≤ a → memory_in m a ≡ 0)
+pub put_all : (m : Layers) (map : Stored) (n : ℕ) → n ≤ 262144 → ((k : ℕ) → n ≤ k → k < 262144 → layer_page m k ≡ None) → ArePut m map n → ((a : ℕ) → 268435456 ≤ a → memory_in m a ≡ 0)
     → (a : ℕ) → memory_of map a ≡ memory_in m a
 put_all m map n bound none are rest a =
     ⊎_elim (λ far. absent (are.others (a / 1024) far.1) (λ low. none (a / 1024) far.1 low))
     (λ near. ap (λ (o : Option (List ℕ)). get_or (unwrap_or o zero_page) (a % 1024) 0) (are.below (a / 1024) near.1))
     (leb_tells n (a / 1024))
   where
-    absent : stored_at map (a / 1024) ≡ None → (a / 1024 < 262144 → layered m (a / 1024) ≡ None) → memory_of map a ≡ memory_in m a
+    absent : stored_at map (a / 1024) ≡ None → (a / 1024 < 262144 → layer_page m (a / 1024) ≡ None) → memory_of map a ≡ memory_in m a
     absent shut empty =
         ap (λ (o : Option (List ℕ)). get_or (unwrap_or o zero_page) (a % 1024) 0) shut
         ∙ zero_byte (a % 1024)
@@ -40,8 +40,8 @@ no_first [] none n = refl
 no_first (p ∷ ps) none n = let e : leb 0 p.0 ≡ true = grind (arith, nat_tests) in absurd (none-some p (sym none ∙ rw e refl))
 
 -- where the map has no page, and the table none from this number on, neither has one
-pub no_page : (m l : Layers) (n : ℕ) → l ≡ m → page_in l.above n ≡ None → first_from 0 l.below ≡ None → layered m n ≡ None
-no_page m l n is above below = ap (λ (x : Layers). layered x n) (sym is) ∙ ap₂ (λ (a b : Option (List ℕ)). option_or a b) above (no_first l.below below n)
+pub no_page : (m l : Layers) (n : ℕ) → l ≡ m → page_in l.above n ≡ None → first_from 0 l.below ≡ None → layer_page m n ≡ None
+no_page m l n is above below = ap (λ (x : Layers). layer_page x n) (sym is) ∙ ap₂ (λ (a b : Option (List ℕ)). option_or a b) above (no_first l.below below n)
 
 -- ---- the registers
 -- the registers from x1 to that before n are written into a memory

@@ -11,7 +11,7 @@ use Rattle.page_core.specs.Memories.{flat}
 use Rattle.page_core.specs.Stored.{Stored, stored_at, first_from, IsStoredFrom}
 use Rattle.page_core.proofs.Bytes.{put-outside, put-same}
 use Rattle.rv_step.specs.Opened.{page_in, pages_in}
-use Rattle.flat_machine.specs.Layers.{Layers, layered, layered_pages, memory_in}
+use Rattle.flat_machine.specs.Layers.{Layers, layer_page, layered_pages, memory_in}
 
 -- ---- writing
 -- the page of the memory, where one is above and where none is
@@ -20,7 +20,7 @@ above_shown l n is =
     elim (page_in l.above n) as (λ o. is_some o ≡ true → unwrap_or (option_or o (stored_at l.below n)) zero_page ≡ unwrap_or o zero_page)
     [ Some page ↦ λ _. refl | None ↦ λ h. absurd (cc) ] is
 
-below_shown : (l : Layers) (n : ℕ) → is_some (page_in l.above n) ≡ false → layered l n ≡ stored_at l.below n
+below_shown : (l : Layers) (n : ℕ) → is_some (page_in l.above n) ≡ false → layer_page l n ≡ stored_at l.below n
 below_shown l n is =
     elim (page_in l.above n) as (λ o. is_some o ≡ false → option_or o (stored_at l.below n) ≡ stored_at l.below n)
     [ Some page ↦ λ h. absurd (cc) | None ↦ λ _. refl ] is
@@ -125,14 +125,14 @@ none_after (p ∷ ps) least k is from =
 
 -- the pages are those that were, and each whose number is less than this one is shown from above
 pub record IsLifted (least : ℕ) (old now : Layers) : Type 0 where
-  pub same : (n : ℕ) → layered now n ≡ layered old n
-  pub lifted : (n : ℕ) → n < least → layered now n ≡ page_in now.above n
+  pub same : (n : ℕ) → layer_page now n ≡ layer_page old n
+  pub lifted : (n : ℕ) → n < least → layer_page now n ≡ page_in now.above n
 
 -- a page that isn't stored below, or is above, is shown from above
-above_alone : (l : Layers) (n : ℕ) → stored_at l.below n ≡ None → layered l n ≡ page_in l.above n
+above_alone : (l : Layers) (n : ℕ) → stored_at l.below n ≡ None → layer_page l n ≡ page_in l.above n
 above_alone l n none = ap (option_or (page_in l.above n)) none ∙ option_or-none (page_in l.above n)
 
-above_first : (l : Layers) (n : ℕ) → is_some (page_in l.above n) ≡ true → layered l n ≡ page_in l.above n
+above_first : (l : Layers) (n : ℕ) → is_some (page_in l.above n) ≡ true → layer_page l n ≡ page_in l.above n
 above_first l n is =
     elim (page_in l.above n) as (λ o. is_some o ≡ true → option_or o (stored_at l.below n) ≡ o)
     [ Some page ↦ λ _. refl | None ↦ λ h. absurd (cc) ] is
@@ -172,10 +172,10 @@ pub lifted_all : (old now new : Layers) (least : ℕ) → IsLifted least old now
 lifted_all old now new least is none above below =
     λ i a. get_or (unwrap_or (pages_same (a / 1024) i) zero_page) (a % 1024) 0
   where
-    shown : (n : ℕ) → layered now n ≡ page_in now.above n
+    shown : (n : ℕ) → layer_page now n ≡ page_in now.above n
     shown n = ⊎_elim (λ from. above_alone now n (none_after now.below least n none from.1)) (λ before. is.lifted n before.1) (leb_tells least n)
 
-    pages_same : (n : ℕ) → layered new n ≡ layered old n
+    pages_same : (n : ℕ) → layer_page new n ≡ layer_page old n
     pages_same n =
         above_alone new n (ap (λ (s : Stored). stored_at s n) below)
         ∙ ap (λ (pages : List (Option (List ℕ))). page_in pages n) above ∙ sym (shown n) ∙ is.same n

@@ -6,12 +6,12 @@ use Rattle.std.proofs.lemmas.List.{take-append-drop}
 use Rattle.rv_isa.specs.declared.fault.Fault.{Fault}
 use Rattle.page_core.specs.Images.{Image}
 use Rattle.rv_step.specs.Machine.{State, Event, Went, Halted, Faulted, step_of, step_cost}
-use Rattle.rv_step.specs.Runs.{start, after, spent, state_gone, ends_with, verdict, IsOutcome}
+use Rattle.rv_step.specs.Runs.{start, after, run_cost, state_gone, ends_with, verdict, IsOutcome}
 use Rattle.rv_step.specs.Tapes.{Tape}
-use Rattle.rv_step.specs.declared.outcome.Outcome.TheVariants.{Halted as HaltedWith, Faulted as FaultedAt, OverLimit}
+use Rattle.rv_step.specs.declared.outcome.Outcome.TheVariants.{Halted as HaltedAt, Faulted as FaultedAt, OverLimit}
 use Rattle.rv_step.proofs.Runs.{step_on, spent_next}
 use Rattle.flat_machine.specs.Layers.{memory_in}
-use Rattle.flat_machine.specs.Going.{Going, IsUncut, state_of, gone, gone_in, HaltsWith, Stands, EndsSo}
+use Rattle.flat_machine.specs.Going.{Going, IsUncut, flat_state, went_steps, went_steps_in, HaltsWith, IsRunOf, IsRunEnd}
 
 -- ---- any run
 stops_on : (s : State) (n : ℕ) (t : State) (e : Event) → after s n ≡ Some t → step_of t ≡ e → state_gone e ≡ None → after s (suc n) ≡ None
@@ -32,137 +32,137 @@ all_words t u same = take-append-drop u.used u.words ∙ same ∙ sym (take-appe
 
 -- where it starts
 pub stands_new : (g : Going) (image : Image) (words : List ℕ) → g.pc ≡ image.entry → g.x ≡ replicate 32 0 → ((a : ℕ) → memory_in g.memory a ≡ image.memory a)
-    → g.read ≡ [] → g.words ≡ words → g.journal ≡ [] → g.calls ≡ [] → g.steps ≡ 0 → g.cycles ≡ 0 → g.halted ≡ None → Stands g image words
-unfolding after spent
+    → g.read ≡ [] → g.words ≡ words → g.journal ≡ [] → g.calls ≡ [] → g.steps ≡ 0 → g.cycles ≡ 0 → g.halted ≡ None → IsRunOf g image words
+unfolding after run_cost
 stands_new g image words pc x memory none taken journal calls steps cycles halted =
-    let same : state_of g ≡ start image words =
+    let same : flat_state g ≡ start image words =
     λ i. record { pc = pc i; x = x i; memory = λ a. memory a i; words = taken i; journal = journal i; calls = calls i } in
     record {
-      reached = ap₂ (λ (n : ℕ) (o : Option ℕ). after (start image words) (gone_in n o)) steps halted ∙ ap Some (sym same);
-      cost = cycles ∙ ap (spent (start image words)) (sym steps);
-      halts = subst (λ (o : Option ℕ). HaltsWith (state_of g) g.steps o) (sym halted) tt;
+      reached = ap₂ (λ (n : ℕ) (o : Option ℕ). after (start image words) (went_steps_in n o)) steps halted ∙ ap Some (sym same);
+      cost = cycles ∙ ap (run_cost (start image words)) (sym steps);
+      halts = subst (λ (o : Option ℕ). HaltsWith (flat_state g) g.steps o) (sym halted) tt;
       all = ap₂ (λ (xs ys : List ℕ). xs ++ ys) none taken;
     }
 
 -- the state, the words, the numbers and the halt alone count
-pub stands_still : (g h : Going) → state_of h ≡ state_of g → h.read ++ h.words ≡ g.read ++ g.words → h.steps ≡ g.steps → h.cycles ≡ g.cycles → h.halted ≡ g.halted
-    → (image : Image) (words : List ℕ) → Stands g image words → Stands h image words
+pub stands_still : (g h : Going) → flat_state h ≡ flat_state g → h.read ++ h.words ≡ g.read ++ g.words → h.steps ≡ g.steps → h.cycles ≡ g.cycles → h.halted ≡ g.halted
+    → (image : Image) (words : List ℕ) → IsRunOf g image words → IsRunOf h image words
 stands_still g h state all steps cycles halted image words stands = record {
-  reached = ap₂ (λ (n : ℕ) (o : Option ℕ). after (start image words) (gone_in n o)) steps halted ∙ stands.reached ∙ ap Some (sym state);
-  cost = cycles ∙ stands.cost ∙ ap (spent (start image words)) (sym steps);
-  halts = subst (λ (o : Option ℕ). HaltsWith (state_of h) h.steps o) (sym halted)
-      (subst (λ (n : ℕ). HaltsWith (state_of h) n g.halted) (sym steps)
+  reached = ap₂ (λ (n : ℕ) (o : Option ℕ). after (start image words) (went_steps_in n o)) steps halted ∙ stands.reached ∙ ap Some (sym state);
+  cost = cycles ∙ stands.cost ∙ ap (run_cost (start image words)) (sym steps);
+  halts = subst (λ (o : Option ℕ). HaltsWith (flat_state h) h.steps o) (sym halted)
+      (subst (λ (n : ℕ). HaltsWith (flat_state h) n g.halted) (sym steps)
       (subst (λ (s : State). HaltsWith s g.steps g.halted) (sym state) stands.halts));
   all = all ∙ stands.all;
 }
 
-module _ (g h : Going) (all : h.read ++ h.words ≡ g.read ++ g.words) (steps : h.steps ≡ g.steps + 1) (cycles : h.cycles ≡ g.cycles + step_cost (state_of g)) (on : g.halted ≡ None)
-    (image : Image) (words : List ℕ) (stands : Stands g image words) where
+module _ (g h : Going) (all : h.read ++ h.words ≡ g.read ++ g.words) (steps : h.steps ≡ g.steps + 1) (cycles : h.cycles ≡ g.cycles + step_cost (flat_state g)) (on : g.halted ≡ None)
+    (image : Image) (words : List ℕ) (stands : IsRunOf g image words) where
   -- all steps went
-  reached_so : after (start image words) g.steps ≡ Some (state_of g)
-  reached_so = ap (λ (o : Option ℕ). after (start image words) (gone_in g.steps o)) (sym on) ∙ stands.reached
+  reached_so : after (start image words) g.steps ≡ Some (flat_state g)
+  reached_so = ap (λ (o : Option ℕ). after (start image words) (went_steps_in g.steps o)) (sym on) ∙ stands.reached
 
   more : h.steps ≡ suc g.steps
   more = omega (arith, steps)
 
-  cost_on : h.cycles ≡ spent (start image words) h.steps
+  cost_on : h.cycles ≡ run_cost (start image words) h.steps
   cost_on =
-      cycles ∙ ap (λ (c : ℕ). c + step_cost (state_of g)) stands.cost ∙ sym (spent_next (start image words) g.steps (state_of g) reached_so)
-      ∙ ap (spent (start image words)) (sym more)
+      cycles ∙ ap (λ (c : ℕ). c + step_cost (flat_state g)) stands.cost ∙ sym (spent_next (start image words) g.steps (flat_state g) reached_so)
+      ∙ ap (run_cost (start image words)) (sym more)
 
-  pub stands_on : h.halted ≡ None → step_of (state_of g) ≡ Went (state_of h) → Stands h image words
+  pub stands_on : h.halted ≡ None → step_of (flat_state g) ≡ Went (flat_state h) → IsRunOf h image words
   stands_on none went = record {
-    reached = ap₂ (λ (n : ℕ) (o : Option ℕ). after (start image words) (gone_in n o)) more none
-        ∙ step_on (start image words) g.steps (state_of g) (state_of h) reached_so went;
+    reached = ap₂ (λ (n : ℕ) (o : Option ℕ). after (start image words) (went_steps_in n o)) more none
+        ∙ step_on (start image words) g.steps (flat_state g) (flat_state h) reached_so went;
     cost = cost_on;
-    halts = subst (λ (o : Option ℕ). HaltsWith (state_of h) h.steps o) (sym none) tt;
+    halts = subst (λ (o : Option ℕ). HaltsWith (flat_state h) h.steps o) (sym none) tt;
     all = all ∙ stands.all;
   }
 
-  pub stands_halted : (code : ℕ) → h.halted ≡ Some code → step_of (state_of g) ≡ Halted code → state_of h ≡ state_of g → Stands h image words
+  pub stands_halted : (code : ℕ) → h.halted ≡ Some code → step_of (flat_state g) ≡ Halted code → flat_state h ≡ flat_state g → IsRunOf h image words
   stands_halted code some halts same =
       let before : suc g.steps - 1 ≡ g.steps = omega arith in
       record {
-        reached = ap₂ (λ (n : ℕ) (o : Option ℕ). after (start image words) (gone_in n o)) more some
+        reached = ap₂ (λ (n : ℕ) (o : Option ℕ). after (start image words) (went_steps_in n o)) more some
             ∙ ap (after (start image words)) before ∙ reached_so ∙ ap Some (sym same);
         cost = cost_on;
-        halts = subst (λ (o : Option ℕ). HaltsWith (state_of h) h.steps o) (sym some) (omega (arith, steps), ap step_of same ∙ halts);
+        halts = subst (λ (o : Option ℕ). HaltsWith (flat_state h) h.steps o) (sym some) (omega (arith, steps), ap step_of same ∙ halts);
         all = all ∙ stands.all;
       }
 
 -- ---- how it ends
 -- a run that has halted did so within any limit that its cost keeps
-halted_outcome : (s t : State) (n steps code cycles limit : ℕ) → steps - 1 ≡ n → 1 ≤ steps → after s n ≡ Some t → step_of t ≡ Halted code → cycles ≡ spent s steps → cycles ≤ limit
-    → IsOutcome s limit (HaltedWith code)
+halted_outcome : (s t : State) (n steps code cycles limit : ℕ) → steps - 1 ≡ n → 1 ≤ steps → after s n ≡ Some t → step_of t ≡ Halted code → cycles ≡ run_cost s steps → cycles ≤ limit
+    → IsOutcome s limit (HaltedAt code)
 halted_outcome s t n steps code cycles limit before some reached halts cost keeps =
     let last : steps ≡ suc n = omega arith in
-    let all : cycles ≡ spent s n + step_cost t = cost ∙ ap (spent s) last ∙ spent_next s n t reached in
+    let all : cycles ≡ run_cost s n + step_cost t = cost ∙ ap (run_cost s) last ∙ spent_next s n t reached in
     record {
       step = n;
       state = t;
       reached = reached;
       afforded = omega (arith, all, keeps);
-      ended = in_limit limit (spent s n) n t (Halted code) (omega (arith, all, keeps)) halts;
+      ended = in_limit limit (run_cost s n) n t (Halted code) (omega (arith, all, keeps)) halts;
     }
 
-module _ (g : Going) (image : Image) (words : List ℕ) (limit : ℕ) (stands : Stands g image words) (keeps : g.cycles ≤ limit) where
-  pub ends_halted : (code : ℕ) → g.halted ≡ Some code → EndsSo g image words limit (HaltedWith code)
+module _ (g : Going) (image : Image) (words : List ℕ) (limit : ℕ) (stands : IsRunOf g image words) (keeps : g.cycles ≤ limit) where
+  pub ends_halted : (code : ℕ) → g.halted ≡ Some code → IsRunEnd g image words limit (HaltedAt code)
   unfolding halted_outcome
   ends_halted code some =
-      let halts : (1 ≤ g.steps) × (step_of (state_of g) ≡ Halted code) = subst (λ (o : Option ℕ). HaltsWith (state_of g) g.steps o) some stands.halts in
-      let before : gone g ≡ g.steps - 1 = ap (gone_in g.steps) some in
+      let halts : (1 ≤ g.steps) × (step_of (flat_state g) ≡ Halted code) = subst (λ (o : Option ℕ). HaltsWith (flat_state g) g.steps o) some stands.halts in
+      let before : went_steps g ≡ g.steps - 1 = ap (went_steps_in g.steps) some in
       record {
         stands = stands;
-        ends = halted_outcome (start image words) (state_of g) (g.steps - 1) g.steps code g.cycles limit refl halts.0
+        ends = halted_outcome (start image words) (flat_state g) (g.steps - 1) g.steps code g.cycles limit refl halts.0
             (ap (after (start image words)) (sym before) ∙ stands.reached) halts.1 stands.cost keeps;
         reached = before;
         steps = omega (arith, halts.0);
       }
 
   module _ (on : g.halted ≡ None) where
-    here : after (start image words) g.steps ≡ Some (state_of g)
-    here = ap (λ (o : Option ℕ). after (start image words) (gone_in g.steps o)) (sym on) ∙ stands.reached
+    here : after (start image words) g.steps ≡ Some (flat_state g)
+    here = ap (λ (o : Option ℕ). after (start image words) (went_steps_in g.steps o)) (sym on) ∙ stands.reached
 
-    pub ends_over : limit - g.cycles < step_cost (state_of g) → EndsSo g image words limit (OverLimit g.steps)
+    pub ends_over : limit - g.cycles < step_cost (flat_state g) → IsRunEnd g image words limit (OverLimit g.steps)
     ends_over room = record {
       stands = stands;
       ends = record {
         step = g.steps;
-        state = state_of g;
+        state = flat_state g;
         reached = here;
         afforded = omega (arith, stands.cost, keeps);
-        ended = over_limit limit (spent (start image words) g.steps) g.steps (state_of g) (omega (arith, stands.cost, keeps, room));
+        ended = over_limit limit (run_cost (start image words) g.steps) g.steps (flat_state g) (omega (arith, stands.cost, keeps, room));
       };
-      reached = ap (gone_in g.steps) on;
+      reached = ap (went_steps_in g.steps) on;
       steps = refl;
     }
 
-    pub ends_faulted : (fault : Fault) → step_cost (state_of g) ≤ limit - g.cycles → step_of (state_of g) ≡ Faulted fault
-        → EndsSo g image words limit (FaultedAt fault g.pc g.steps)
+    pub ends_faulted : (fault : Fault) → step_cost (flat_state g) ≤ limit - g.cycles → step_of (flat_state g) ≡ Faulted fault
+        → IsRunEnd g image words limit (FaultedAt fault g.pc g.steps)
     ends_faulted fault room faults = record {
       stands = stands;
       ends = record {
         step = g.steps;
-        state = state_of g;
+        state = flat_state g;
         reached = here;
         afforded = omega (arith, stands.cost, keeps);
-        ended = in_limit limit (spent (start image words) g.steps) g.steps (state_of g) (Faulted fault) (omega (arith, stands.cost, keeps, room)) faults;
+        ended = in_limit limit (run_cost (start image words) g.steps) g.steps (flat_state g) (Faulted fault) (omega (arith, stands.cost, keeps, room)) faults;
       };
-      reached = ap (gone_in g.steps) on;
+      reached = ap (went_steps_in g.steps) on;
       steps = refl;
     }
 
 -- ---- where it can't go on
-pub stops : (g : Going) (image : Image) (words : List ℕ) → Stands g image words → (e : Event) → step_of (state_of g) ≡ e → state_gone e ≡ None
-    → after (start image words) (gone g + 1) ≡ None
+pub stops : (g : Going) (image : Image) (words : List ℕ) → IsRunOf g image words → (e : Event) → step_of (flat_state g) ≡ e → state_gone e ≡ None
+    → after (start image words) (went_steps g + 1) ≡ None
 stops g image words stands e is none =
-    let next : gone g + 1 ≡ suc (gone g) = omega arith in
-    ap (after (start image words)) next ∙ stops_on (start image words) (gone g) (state_of g) e stands.reached is none
+    let next : went_steps g + 1 ≡ suc (went_steps g) = omega arith in
+    ap (after (start image words)) next ∙ stops_on (start image words) (went_steps g) (flat_state g) e stands.reached is none
 
 -- after a halt
-pub stopped : (g : Going) (code : ℕ) → g.halted ≡ Some code → (image : Image) (words : List ℕ) → Stands g image words → after (start image words) (gone g + 1) ≡ None
+pub stopped : (g : Going) (code : ℕ) → g.halted ≡ Some code → (image : Image) (words : List ℕ) → IsRunOf g image words → after (start image words) (went_steps g + 1) ≡ None
 stopped g code some image words stands =
-    let halts : (1 ≤ g.steps) × (step_of (state_of g) ≡ Halted code) = subst (λ (o : Option ℕ). HaltsWith (state_of g) g.steps o) some stands.halts in
+    let halts : (1 ≤ g.steps) × (step_of (flat_state g) ≡ Halted code) = subst (λ (o : Option ℕ). HaltsWith (flat_state g) g.steps o) some stands.halts in
     stops g image words stands (Halted code) halts.1 refl
 
 pub some_code : (o : Option ℕ) → is_some o ≡ true → (code : ℕ) × (o ≡ Some code)

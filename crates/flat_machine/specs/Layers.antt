@@ -11,12 +11,12 @@ pub record Layers : Type 0 where
   pub below : Stored
 
 -- the page with this number, if one of the layers has it
-abbrev pub layered : Layers → ℕ → Option (List ℕ)
-layered l number = option_or (page_in l.above number) (stored_at l.below number)
+abbrev pub layer_page : Layers → ℕ → Option (List ℕ)
+layer_page l number = option_or (page_in l.above number) (stored_at l.below number)
 
 -- the pages: one that neither has is zero
 abbrev pub layered_pages : Layers → Pages
-layered_pages l = λ number. unwrap_or (layered l number) zero_page
+layered_pages l = λ number. unwrap_or (layer_page l number) zero_page
 
 -- the byte at each address
 abbrev pub memory_in : Layers → ℕ → ℕ

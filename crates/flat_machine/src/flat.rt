@@ -2,9 +2,10 @@ ghost use Rattle.std.specs.Prelude.{◌≡◌, ◌≢◌, ◌+◌, ◌-◌, ◌^
 ghost use Rattle.page_core.specs.Images.{Image as PlainImage};
 ghost use Rattle.page_core.specs.Stored.{memory_of};
 ghost use Rattle.elf_image.specs.Loaded.{image_of};
-ghost use Rattle.rv_step.specs.Machine.{full, full_of, foot_of, step_cost};
+ghost use Rattle.rv_step.specs.Machine.{full, full_of, foot_of, step_cost, step_of};
+ghost use Rattle.rv_step.specs.Stepping.{fault_in};
 ghost use Rattle.rv_step.specs.Runs.{start, after};
-ghost use Rattle.flat_machine.specs.Going.{state_of, gone, Stands, DoesOne, DoesNone, DoesLast, EndsSo};
+ghost use Rattle.flat_machine.specs.Going.{flat_state, went_steps, IsRunOf, DoesOne, DoesNone, DoesLast, IsRunEnd};
 
 use crate::memory::FlatMemory;
 use byte_cursor::{ByteList, WordList};
@@ -20,7 +21,7 @@ use std::marker::Model;
 const MOST_CYCLES: u64 = 257;
 
 /// The uncut run of an image and input words, and how far it is. Contracts see its state, how many steps it did, what
-/// they cost, and the exit code if the last one halted; `Stands` says that this is the run of an image and words.
+/// they cost, and the exit code if the last one halted; `IsRunOf` says that this is the run of an image and words.
 ///
 /// A call that is refused for want of memory leaves it after some steps of the same run, and may be repeated.
 #[derive(Drop)]
@@ -85,7 +86,7 @@ impl Flat {
     /// The run of an image and input words, at its start. It takes no memory.
     pub fn new(alloc: Global, image: Image, words: WordList) -> Flat
         ensures start { result.steps ≡ 0 }
-        ensures stands { Stands result (image_of image) words.items }
+        ensures stands { IsRunOf result (image_of image) words.items }
     {
         Flat {
             core: Core {
@@ -106,8 +107,8 @@ impl Flat {
     /// outcome it answers the same for the same limit, and goes on from OverLimit for a greater one.
     pub fn run(&mut self, limit: u64) -> Result<Outcome, AllocError>
         requires { self.old.cycles ≤ limit }
-        ensures stands { (image : PlainImage) (words : List ℕ) → Stands self.old image words → Stands self.new image words }
-        ensures outcome { IfOk result (λ outcome. (image : PlainImage) (words : List ℕ) → Stands self.old image words → EndsSo self.new image words limit outcome) }
+        ensures stands { (image : PlainImage) (words : List ℕ) → IsRunOf self.old image words → IsRunOf self.new image words }
+        ensures outcome { IfOk result (λ outcome. (image : PlainImage) (words : List ℕ) → IsRunOf self.old image words → IsRunEnd self.new image words limit outcome) }
         ensures within { self.new.cycles ≤ limit }
         ensures more { self.old.steps ≤ self.new.steps }
     {
@@ -122,16 +123,18 @@ impl Flat {
     /// Copies the image's pages to where a step finds them without a search. No state changes by it, with Ok or with a
     /// refusal.
     pub fn lift(&mut self) -> Result<(), AllocError>
-        ensures stands { (image : PlainImage) (words : List ℕ) → Stands self.old image words → Stands self.new image words }
+        ensures stands { (image : PlainImage) (words : List ℕ) → IsRunOf self.old image words → IsRunOf self.new image words }
         ensures same { DoesNone self.old self.new }
     {
         self.memory.lift_pages()
     }
 
-    /// What the next step touches and costs, without doing it, as long as no step has halted. It takes no memory.
+    /// What the next step touches and costs, and the fault that it ends with, if any, without doing it, as long as no step
+    /// has halted. It takes no memory.
     pub fn look(&self) -> Looked
-        ensures foot { result.foot ≡ foot_of (state_of self.now) }
-        ensures cost { result.cost ≡ step_cost (state_of self.now) }
+        ensures foot { result.foot ≡ foot_of (flat_state self.now) }
+        ensures cost { result.cost ≡ step_cost (flat_state self.now) }
+        ensures fault { result.fault ≡ fault_in (step_of (flat_state self.now)) }
     {
         match look(&self.core, &self.memory, &self.tape) {
             Ok(looked) => looked,
@@ -143,10 +146,10 @@ impl Flat {
     /// the outcome: that of a step that halts, which is done, or that faults or costs too much, which isn't.
     pub fn step(&mut self, limit: u64) -> Result<Option<Outcome>, AllocError>
         requires { self.old.cycles ≤ limit }
-        ensures stands { (image : PlainImage) (words : List ℕ) → Stands self.old image words → Stands self.new image words }
+        ensures stands { (image : PlainImage) (words : List ℕ) → IsRunOf self.old image words → IsRunOf self.new image words }
         ensures within { self.new.cycles ≤ limit }
         ensures went { IfOk result (λ ended. IfNone ended ((self.old.halted ≡ None) × (self.new.halted ≡ None) × DoesOne self.old self.new)) }
-        ensures ended { IfOk result (λ ended. IfSome ended (λ outcome. (image : PlainImage) (words : List ℕ) → Stands self.old image words → EndsSo self.new image words limit outcome)) }
+        ensures ended { IfOk result (λ ended. IfSome ended (λ outcome. (image : PlainImage) (words : List ℕ) → IsRunOf self.old image words → IsRunEnd self.new image words limit outcome)) }
         ensures last { IfOk result (λ ended. IfSome ended (λ outcome. self.old.halted ≡ None → DoesLast self.old self.new outcome)) }
         ensures more { self.old.steps ≤ self.new.steps }
         ensures refused { OnErr result (DoesNone self.old self.new) }
@@ -185,13 +188,15 @@ impl Flat {
     }
 
     /// Does the next steps as long as they go, at most `steps` of them, with no limit on their cost, and tells how many
-    /// it did. A step that halts or faults isn't done by it; after a halt it does none.
+    /// it did. A step that halts or faults isn't done by it; after a halt it does none. Without memory it has done some of
+    /// these steps.
     pub fn go(&mut self, steps: u64) -> Result<u64, AllocError>
         requires { self.old.steps + steps ≤ 2 ^ 48 }
-        ensures stands { (image : PlainImage) (words : List ℕ) → Stands self.old image words → Stands self.new image words }
+        ensures stands { (image : PlainImage) (words : List ℕ) → IsRunOf self.old image words → IsRunOf self.new image words }
         ensures done { IfOk result (λ done. self.new.steps ≡ self.old.steps + done) }
+        ensures more { self.old.steps ≤ self.new.steps }
         ensures bound { self.new.steps ≤ self.old.steps + steps }
-        ensures most { IfOk result (λ done. done < steps → (image : PlainImage) (words : List ℕ) → Stands self.old image words → after (start image words) (gone self.new + 1) ≡ None) }
+        ensures most { IfOk result (λ done. done < steps → (image : PlainImage) (words : List ℕ) → IsRunOf self.old image words → after (start image words) (went_steps self.new + 1) ≡ None) }
         ensures halted { self.new.halted ≡ self.old.halted }
     {
         self.memory.lift_pages()?;
@@ -206,10 +211,10 @@ impl Flat {
     // Does the next step, if it goes, and tells whether it did.
     fn go_on(&mut self) -> Result<bool, AllocError>
         requires { self.old.steps < 2 ^ 48 }
-        ensures stands { (image : PlainImage) (words : List ℕ) → Stands self.old image words → Stands self.new image words }
+        ensures stands { (image : PlainImage) (words : List ℕ) → IsRunOf self.old image words → IsRunOf self.new image words }
         ensures went { IfOk result (λ went. IsTrue went → self.new.steps ≡ self.old.steps + 1) }
         ensures stays { IfOk result (λ went. IsFalse went → (self.new.steps ≡ self.old.steps)
-            × ((image : PlainImage) (words : List ℕ) → Stands self.old image words → after (start image words) (gone self.new + 1) ≡ None)) }
+            × ((image : PlainImage) (words : List ℕ) → IsRunOf self.old image words → after (start image words) (went_steps self.new + 1) ≡ None)) }
         ensures refused { OnErr result (self.new.steps ≡ self.old.steps) }
         ensures halted { self.new.halted ≡ self.old.halted }
     {
@@ -247,7 +252,7 @@ impl Flat {
 
     /// The memory of the state that it is in, with the registers in the register page.
     pub fn full(&self) -> Result<PageMap, AllocError>
-        ensures { IfOk result (λ map. (a : ℕ) → memory_of map a ≡ full (state_of self.now) a) }
+        ensures { IfOk result (λ map. (a : ℕ) → memory_of map a ≡ full (flat_state self.now) a) }
     {
         let mut map = PageMap::new(self.alloc);
         for number in 0..self.memory.end() {

@@ -1,7 +1,8 @@
 ghost use Rattle.std.specs.Prelude.{◌≡◌, ℕ, ◌/◌, ◌<◌, ◌≤◌, None, OnOk, option_map};
 ghost use Rattle.page_core.specs.Pages.{IsPage};
 ghost use Rattle.page_core.specs.Stored.{stored_at, memory_of};
-ghost use Rattle.flat_machine.specs.Layers.{layered, layered_pages, memory_in};
+ghost use Rattle.flat_machine.specs.Layers.{layer_page, layered_pages, memory_in};
+ghost use Rattle.page_core.specs.declared.sizes.TheConstants.{PAGES};
 
 use page_core::{PAGES, Page, PageMap};
 use rv_step::{Bus, OpenPages};
@@ -39,7 +40,7 @@ impl FlatMemory {
 
     // The page with this number; None exactly where it is in neither layer, and zero.
     pub(crate) fn page(&self, number: u32) -> Option<&Page>
-        ensures { option_map (λ page. page.now) result ≡ layered self.now number }
+        ensures { option_map (λ page. page.now) result ≡ layer_page self.now number }
     {
         match self.above.page(number) {
             Some(page) => Some(page),
@@ -49,8 +50,8 @@ impl FlatMemory {
 
     // A number up to 262,144 from which on neither layer has a page.
     pub(crate) fn end(&self) -> u32
-        ensures bound { result ≤ 262144 }
-        ensures none { (n : ℕ) → result ≤ n → n < 262144 → layered self.now n ≡ None }
+        ensures bound { result ≤ PAGES }
+        ensures none { (n : ℕ) → result ≤ n → n < PAGES → layer_page self.now n ≡ None }
     {
         let end = self.above.end();
         if self.below.next_from(0).is_none() && end < PAGES as usize {
@@ -91,9 +92,10 @@ impl FlatMemory {
 impl Bus for FlatMemory {
     ghost use Rattle.std.specs.Prelude.{is_some, ltb};
     ghost use Rattle.rv_step.specs.Opened.{page_in};
+    ghost use Rattle.page_core.specs.declared.sizes.TheConstants.{PAGES};
     ghost use Rattle.flat_machine.specs.Layers.{memory_in};
 
-    ghost opens = { λ m page. ltb page 262144 };
+    ghost opens = { λ m page. ltb page PAGES };
 
     ghost byte_at = { λ m. memory_in m };
 

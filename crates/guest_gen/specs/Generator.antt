@@ -1,7 +1,7 @@
 -- The generator's guest and its input words, for a size of 1 to 1,000,000 words.
 use Rattle.std.specs.Prelude.{ℕ, ◌≤◌, zero, suc, ◌+◌, ◌*◌, ◌/◌, ◌%◌, ◌^◌, ℤ, pos, neg_ℤ, ◌-ℤ◌, int_div, List, [], ◌∷◌, map}
 use Rattle.std.specs.List.{range_with_len}
-use Rattle.rv_isa.specs.Words.{twos_complement, unsigned}
+use Rattle.rv_isa.specs.Words.{twos_complement, unsigned_of}
 use Rattle.rv_isa.specs.declared.instr.AluOp.TheVariants.{Add, Sll, Srl, Mul}
 use Rattle.rv_isa.specs.declared.instr.BranchOp.TheVariants.{Bne}
 use Rattle.rv_isa.specs.declared.instr.LoadOp.TheVariants.{Lw}
@@ -18,13 +18,13 @@ abbrev pub next_state : ℕ → ℕ
 next_state state = (state * 6364136223846793005 + 1442695040888963407) % 2 ^ 64
 
 -- state k; state 0 is the number
-abbrev pub state_of : ℕ → ℕ → ℕ
-state_of number zero = number
-state_of number (suc k) = next_state (state_of number k)
+abbrev pub nth_state : ℕ → ℕ → ℕ
+nth_state number zero = number
+nth_state number (suc k) = next_state (nth_state number k)
 
 -- word k is the high half of state k + 1
 abbrev pub input_word : ℕ → ℕ → ℕ
-input_word number k = state_of number (suc k) / 2 ^ 32
+input_word number k = nth_state number (suc k) / 2 ^ 32
 
 -- words 0 to size - 1
 abbrev pub input_words : ℕ → ℕ → List ℕ
@@ -37,7 +37,7 @@ low_part size = twos_complement (2 ^ 11) (size % 2 ^ 12)
 
 -- what is left of the size, divided by 4,096
 abbrev pub high_part : ℕ → ℕ
-high_part size = unsigned (int_div (pos size -ℤ low_part size) (pos 4096))
+high_part size = unsigned_of (int_div (pos size -ℤ low_part size) (pos 4096))
 
 -- ---- instructions, with their operands in the order of an assembler's line
 abbrev pub lui : ℕ → ℕ → GuestLine

@@ -7,12 +7,12 @@ use Rattle.std.proofs.lemmas.Bool.{not-true, not-false, or_right}
 use Rattle.std.proofs.lemmas.List.Folds.{list_any-append}
 use Rattle.std.proofs.lemmas.Bool.Decides.{nat_tests}
 use Rattle.page_core.specs.Memory.{place, ascending, is_among}
-use Rattle.host_calls.specs.Meters.{unused, is_within}
+use Rattle.host_calls.specs.Meters.{fresh_meter, is_within}
 use Rattle.page_core.proofs.Listed.{Contains-from_is_among}
 use Rattle.page_core.proofs.Ascending.{ascending-ascending, ascending-place, place_there, is_among-ascending, Contains-ascending}
 
 -- a segment of no steps stays within any limits
-pub unused_within : (cycles pages : ℕ) → IsTrue (is_within (unused cycles pages))
+pub unused_within : (cycles pages : ℕ) → IsTrue (is_within (fresh_meter cycles pages))
 unused_within cycles pages = grind (arith, nat_tests)
 
 -- ---- the order in which pages are placed makes no difference

@@ -22,15 +22,15 @@ unfoldable pub within : List (ℕ × ℕ) → Call → Result Call Fault
 within [] call = Ok call
 within (r ∷ rs) call = cond (fits_below r.0 r.1) (within rs call) (Err (BadAddress r.0))
 
-unfoldable pub checked : ℕ → Bool → Call → Result Call Fault
-checked number good call = cond good (within (ranges_of call) call) (Err (BadArgs number))
+unfoldable pub call_or_fault : ℕ → Bool → Call → Result Call Fault
+call_or_fault number good call = cond good (within (ranges_of call) call) (Err (BadArgs number))
 
 abbrev pub call_with : ℕ → ℕ → ℕ → Result Call Fault
 call_with number a0 a1 =
     cond (eqb number 0) (Ok (Halt a0))
-    (cond (eqb number 1) (checked 1 (eqb (a0 % 4) 0 && leb a1 256) (Read a0 a1))
-    (cond (eqb number 2) (checked 2 (leb a1 1024) (Commit a0 a1))
-    (cond (eqb number 3) (checked 3 (eqb (a0 % 4) 0 && eqb (a1 % 4) 0) (Assume a0 a1))
+    (cond (eqb number 1) (call_or_fault 1 (eqb (a0 % 4) 0 && leb a1 256) (Read a0 a1))
+    (cond (eqb number 2) (call_or_fault 2 (leb a1 1024) (Commit a0 a1))
+    (cond (eqb number 3) (call_or_fault 3 (eqb (a0 % 4) 0 && eqb (a1 % 4) 0) (Assume a0 a1))
     (Err (BadCall number)))))
 
 -- the call that the registers x name

@@ -10,8 +10,8 @@ pub record Metered : Type 0 where
   pub touched : List ℕ
 
 -- without a step
-abbrev pub unused : ℕ → ℕ → Metered
-unused cycles pages = record { cycles = cycles; pages = pages; cost = 0; touched = [] }
+abbrev pub fresh_meter : ℕ → ℕ → Metered
+fresh_meter cycles pages = record { cycles = cycles; pages = pages; cost = 0; touched = [] }
 
 -- with one more step
 abbrev pub with_step : List ℕ → ℕ → Metered → Metered

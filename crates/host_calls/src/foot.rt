@@ -1,5 +1,6 @@
 ghost use Rattle.std.specs.Prelude.{◌≡◌, ◌+◌, ◌≤◌, ◌<◌, ◌∷◌, [], length, slice_get, Some, IsTrue, ◌↔◌};
 ghost use Rattle.host_calls.specs.Foots.{below, with_data};
+ghost use Rattle.page_core.specs.declared.sizes.TheConstants.{REGISTER_PAGE};
 
 use arrayvec::ArrayVec;
 use page_core::REGISTER_PAGE;
@@ -47,7 +48,7 @@ fn stands_at(pages: &[u32], at: usize, page: u32) -> bool
 impl Foot {
     /// The footprint of a step whose fetch faults.
     pub fn of_registers() -> Foot
-        ensures { result ≡ 262143 ∷ [] }
+        ensures { result ≡ REGISTER_PAGE ∷ [] }
     {
         let mut pages = ArrayVec::new();
         pages.push(REGISTER_PAGE);
@@ -56,7 +57,7 @@ impl Foot {
 
     /// The footprint of a step that touches no data, by its code page.
     pub fn of_code(page: u32) -> Foot
-        ensures { result ≡ 262143 ∷ page ∷ [] }
+        ensures { result ≡ REGISTER_PAGE ∷ page ∷ [] }
     {
         let mut pages = ArrayVec::new();
         pages.push(REGISTER_PAGE);

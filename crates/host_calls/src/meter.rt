@@ -1,6 +1,6 @@
 ghost use Rattle.std.specs.Prelude.{◌≡◌, ◌+◌, ◌<◌, ◌≤◌, ◌++◌, length, not, vec_len, vec_capacity, IsTrue, IsOk, OnOk, OnErr};
 ghost use Rattle.page_core.specs.Memory.{ascending, place, is_among};
-ghost use Rattle.host_calls.specs.Meters.{unused, with_step, is_within, has_room};
+ghost use Rattle.host_calls.specs.Meters.{fresh_meter, with_step, is_within, has_room};
 
 use crate::Foot;
 use std::alloc::{AllocError, Global};
@@ -84,7 +84,7 @@ fn put_all(touched: &mut Vec<u32>, pages: &[u32])
 impl Meter {
     /// A meter of no steps, with these limits. It takes no memory.
     pub fn new(alloc: Global, cycles: u32, pages: u32) -> Meter
-        ensures { result.segment ≡ unused cycles pages }
+        ensures { result.segment ≡ fresh_meter cycles pages }
     {
         Meter {
             cycles,
@@ -127,7 +127,7 @@ impl Meter {
 
     /// Begins anew, with the same limits. It takes no memory.
     pub fn clear(&mut self)
-        ensures { self.new.segment ≡ unused self.old.segment.cycles self.old.segment.pages }
+        ensures { self.new.segment ≡ fresh_meter self.old.segment.cycles self.old.segment.pages }
     {
         self.cost = 0;
         self.touched.clear();

@@ -10,7 +10,7 @@ use rv_isa::{Fault, Regs};
 /// Fault is `BadCall` where the number is above 3; else `BadArgs` where an argument breaks its rule; else
 /// `BadAddress` with the first of the call's ranges of at least one byte that doesn't end at the register page or
 /// below. It takes no memory.
-#[tactic(auto, unfolding(crate::specs::Calls::read_call_of, crate::specs::Calls::checked, crate::specs::Calls::within))]
+#[tactic(auto, unfolding(crate::specs::Calls::read_call_of, crate::specs::Calls::call_or_fault, crate::specs::Calls::within))]
 pub fn read_call(regs: &Regs) -> Result<Call, Fault>
     ensures { result ≡ read_call_of regs.now }
 {

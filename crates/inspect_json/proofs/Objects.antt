@@ -10,7 +10,7 @@ use Rattle.serde_json.specs.Written.{has_float, compact_text, items_text}
 use Rattle.serde_json.specs.declared.value.Value.{Value}
 use Rattle.check_core.specs.Reports.{EntryReport, Report}
 use Rattle.inspect_json.specs.Text.{list_text, entry_text, report_object}
-use Rattle.inspect_json.specs.Values.{IsWritten, AreWritten}
+use Rattle.inspect_json.specs.Values.{HasText, HaveTexts}
 use Rattle.inspect_json.proofs.Lists.{no_floats, joined}
 
 -- the digits of a digest stand in a string as they are
@@ -79,7 +79,7 @@ entry_texts e links claim conditional image journal_digest listed =
     (34 ∷ (encode_lower e.journal_digest ++ 34 ∷ [])) (codes ",\"links\":") (list_text (map decimal e.links)) (codes ",\"seals\":") (decimal e.seals) (codes ",\"steps\":") (decimal e.steps) (codes "}")
 
 pub entry_written : (value : Value) (e : EntryReport) (links : List Value) → view value ≡ entry_data e (items_view links) → Stands e.claim → Stands e.conditional → Stands e.image → Stands e.journal_digest
-    → AreWritten links (map decimal e.links) → IsWritten value (entry_text e)
+    → HaveTexts links (map decimal e.links) → HasText value (entry_text e)
 entry_written value e links is claim conditional image journal_digest all = (
   ap has_float is ∙ ap (λ (b : Bool). b || false) (no_floats links (map decimal e.links) all),
   ap compact_text is ∙ entry_texts e (items_view links) claim conditional image journal_digest (joined links (map decimal e.links) all),
@@ -96,8 +96,8 @@ report_nested : (entries : Items) → compact_text (report_data entries) ≡ cod
 unfolding escape_byte digits
 report_nested entries = refl
 
-pub report_written : (value : Value) (report : Report) (entries : List Value) → view value ≡ report_data (items_view entries) → AreWritten entries (map entry_text report.entries)
-    → IsWritten value (report_object report)
+pub report_written : (value : Value) (report : Report) (entries : List Value) → view value ≡ report_data (items_view entries) → HaveTexts entries (map entry_text report.entries)
+    → HasText value (report_object report)
 report_written value report entries is all = (
   ap has_float is ∙ ap (λ (b : Bool). b || false) (no_floats entries (map entry_text report.entries) all),
   ap compact_text is

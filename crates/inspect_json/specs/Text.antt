@@ -5,8 +5,8 @@ use Rattle.hex.specs.Hex.{encode_lower}
 use Rattle.check_core.specs.Reports.{EntryReport, Report}
 
 -- a digest, as a string of lower-case hexadecimal digits
-abbrev pub digest_text : List ℕ → List ℕ
-digest_text digest = codes "\"" ++ encode_lower digest ++ codes "\""
+abbrev pub digest_json : List ℕ → List ℕ
+digest_json digest = codes "\"" ++ encode_lower digest ++ codes "\""
 
 -- a list of the values that have these texts, with commas (byte 44) between them
 abbrev pub list_text : List (List ℕ) → List ℕ
@@ -16,12 +16,12 @@ list_text texts = codes "[" ++ join_with_byte 44 texts ++ codes "]"
 abbrev pub entry_text : EntryReport → List ℕ
 entry_text entry =
     codes "{\"calls\":" ++ decimal entry.calls
-    ++ codes ",\"claim\":" ++ digest_text entry.claim
-    ++ codes ",\"conditional\":" ++ digest_text entry.conditional
+    ++ codes ",\"claim\":" ++ digest_json entry.claim
+    ++ codes ",\"conditional\":" ++ digest_json entry.conditional
     ++ codes ",\"exit\":" ++ decimal entry.exit
-    ++ codes ",\"image\":" ++ digest_text entry.image
+    ++ codes ",\"image\":" ++ digest_json entry.image
     ++ codes ",\"journal_bytes\":" ++ decimal entry.journal_bytes
-    ++ codes ",\"journal_digest\":" ++ digest_text entry.journal_digest
+    ++ codes ",\"journal_digest\":" ++ digest_json entry.journal_digest
     ++ codes ",\"links\":" ++ list_text (map decimal entry.links)
     ++ codes ",\"seals\":" ++ decimal entry.seals
     ++ codes ",\"steps\":" ++ decimal entry.steps ++ codes "}"

@@ -5,12 +5,12 @@ use Rattle.serde_json.specs.Written.{has_float, compact_text}
 use Rattle.serde_json.specs.declared.value.Value.{Value}
 
 -- the value has no float, whose digits nothing says, and this is its text
-abbrev pub IsWritten : Value → List ℕ → Type 0
-IsWritten value text = (has_float (view value) ≡ false) × (compact_text (view value) ≡ text)
+abbrev pub HasText : Value → List ℕ → Type 0
+HasText value text = (has_float (view value) ≡ false) × (compact_text (view value) ≡ text)
 
 -- each value has its text
-abbrev pub AreWritten : List Value → List (List ℕ) → Type 0
-AreWritten [] [] = ⊤
-AreWritten [] (text ∷ texts) = ⊥
-AreWritten (value ∷ values) [] = ⊥
-AreWritten (value ∷ values) (text ∷ texts) = IsWritten value text × AreWritten values texts
+abbrev pub HaveTexts : List Value → List (List ℕ) → Type 0
+HaveTexts [] [] = ⊤
+HaveTexts [] (text ∷ texts) = ⊥
+HaveTexts (value ∷ values) [] = ⊥
+HaveTexts (value ∷ values) (text ∷ texts) = HasText value text × HaveTexts values texts

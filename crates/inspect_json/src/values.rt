@@ -5,7 +5,7 @@ ghost use Rattle.json.specs.Print.{escape};
 ghost use Rattle.serde_json.specs.Data.{number, unsigned, string, put as with_member};
 ghost use Rattle.serde_json.specs.View.{members_view};
 ghost use Rattle.inspect_json.specs.Text.{entry_text, report_object};
-ghost use Rattle.inspect_json.specs.Values.{IsWritten, AreWritten};
+ghost use Rattle.inspect_json.specs.Values.{HasText, HaveTexts};
 
 use check_core::{EntryClaim, Report};
 use digest_core::Digest;
@@ -19,7 +19,7 @@ const VERSION: u64 = 1;
 
 // The object of a report.
 pub(crate) fn report_value(alloc: Global, report: &Report) -> Result<Value, AllocError>
-    ensures { IfOk result (λ value. IsWritten value (report_object report.now)) }
+    ensures { IfOk result (λ value. HasText value (report_object report.now)) }
 {
     let entries = entry_values(alloc, report.entries.as_slice())?;
     let mut members = Map::new(alloc);
@@ -30,7 +30,7 @@ pub(crate) fn report_value(alloc: Global, report: &Report) -> Result<Value, Allo
 
 // The objects of the entries.
 fn entry_values(alloc: Global, entries: &[EntryClaim]) -> Result<Vec<Value>, AllocError>
-    ensures { IfOk result (λ values. AreWritten values.items (map entry_text entries.now)) }
+    ensures { IfOk result (λ values. HaveTexts values.items (map entry_text entries.now)) }
 {
     let mut values = Vec::new(alloc);
     for entry in entries {
@@ -41,7 +41,7 @@ fn entry_values(alloc: Global, entries: &[EntryClaim]) -> Result<Vec<Value>, All
 
 // The object of an entry.
 fn entry_value(alloc: Global, entry: &EntryClaim) -> Result<Value, AllocError>
-    ensures { IfOk result (λ value. IsWritten value (entry_text entry.now)) }
+    ensures { IfOk result (λ value. HasText value (entry_text entry.now)) }
 {
     let links = link_values(alloc, entry.links.as_slice())?;
     let mut members = Map::new(alloc);
@@ -83,7 +83,7 @@ fn put_digest(
 
 // The numbers of the links.
 fn link_values(alloc: Global, links: &[u16]) -> Result<Vec<Value>, AllocError>
-    ensures { IfOk result (λ values. AreWritten values.items (map decimal links.now)) }
+    ensures { IfOk result (λ values. HaveTexts values.items (map decimal links.now)) }
 {
     let mut values = Vec::new(alloc);
     for link in links {

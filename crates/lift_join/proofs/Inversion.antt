@@ -13,7 +13,7 @@ use Rattle.claim_types.specs.declared.state.State.{State as SystemState}
 use Rattle.claim_types.specs.Claims.{SpanClaim}
 use Rattle.receipt_types.specs.Seals.{Seal}
 use Rattle.seal_replay.specs.Claiming.{claim_at, unless, claim_of}
-use Rattle.lift_join.specs.Joins.{same_state, is_split, joined, join_both}
+use Rattle.lift_join.specs.Joins.{same_state, is_split, joint_claim, join_both}
 use Rattle.std.proofs.lemmas.Bool.{eqb-true}
 
 -- ---- the claim of a seal
@@ -67,11 +67,11 @@ pub record Joins (a b : Option SpanClaim) (claim : SpanClaim) : Type 0 where
   pub is_right : b ≡ Some right
   pub split : left.exit ≡ Split
   pub meets : left.after ≡ right.before
-  pub is : claim ≡ joined left right
+  pub is : claim ≡ joint_claim left right
 
 pub joins : (a b : Option SpanClaim) (claim : SpanClaim) → join_both a b ≡ Some claim → Joins a b claim
 joins (Some x) (Some y) claim h =
-    let (b, e) = cond_some (is_split x.exit && same_state x.after y.before) (joined x y) claim h in
+    let (b, e) = cond_some (is_split x.exit && same_state x.after y.before) (joint_claim x y) claim h in
     record {
       left = x;
       right = y;

@@ -8,10 +8,10 @@ use Rattle.claim_types.specs.declared.state.State.{State as SystemState}
 use Rattle.claim_types.specs.Claims.{SpanClaim}
 use Rattle.receipt_types.specs.Seals.{Seal}
 use Rattle.seal_replay.specs.Claiming.{claim_of}
-use Rattle.lift_join.specs.Joins.{is_split, same_state, joined, claim_join, join_both, chain_of}
+use Rattle.lift_join.specs.Joins.{is_split, same_state, joint_claim, claim_join, join_both, chain_of}
 use Rattle.lift_join.specs.Laws.{ChainsJoin}
 
-joined_twice : (a b c : SpanClaim) → joined (joined a b) c ≡ joined a (joined b c)
+joined_twice : (a b c : SpanClaim) → joint_claim (joint_claim a b) c ≡ joint_claim a (joint_claim b c)
 joined_twice a b c = λ i. record {
   before = a.before;
   after = c.after;
@@ -24,11 +24,11 @@ some_three : (a b c : SpanClaim) → join_both (join_both (Some a) (Some b)) (So
 some_three a b c = go (is_split a.exit && same_state a.after b.before) (is_split b.exit && same_state b.after c.before) refl refl
   where
     go : (p q : Bool) → (is_split a.exit && same_state a.after b.before) ≡ p → (is_split b.exit && same_state b.after c.before) ≡ q
-        → join_both (cond p (Some (joined a b)) None) (Some c) ≡ join_both (Some a) (cond q (Some (joined b c)) None)
+        → join_both (cond p (Some (joint_claim a b)) None) (Some c) ≡ join_both (Some a) (cond q (Some (joint_claim b c)) None)
     go true true e f =
-        ap (λ (t : Bool). cond t (Some (joined (joined a b) c)) None) f ∙ ap Some (joined_twice a b c) ∙ sym (ap (λ (t : Bool). cond t (Some (joined a (joined b c))) None) e)
-    go true false e f = ap (λ (t : Bool). cond t (Some (joined (joined a b) c)) None) f
-    go false true e f = sym (ap (λ (t : Bool). cond t (Some (joined a (joined b c))) None) e)
+        ap (λ (t : Bool). cond t (Some (joint_claim (joint_claim a b) c)) None) f ∙ ap Some (joined_twice a b c) ∙ sym (ap (λ (t : Bool). cond t (Some (joint_claim a (joint_claim b c))) None) e)
+    go true false e f = ap (λ (t : Bool). cond t (Some (joint_claim (joint_claim a b) c)) None) f
+    go false true e f = sym (ap (λ (t : Bool). cond t (Some (joint_claim a (joint_claim b c))) None) e)
     go false false e f = refl
 
 none_right : (o : Option SpanClaim) → join_both o None ≡ None
@@ -66,9 +66,9 @@ pub test_state : (a b : SystemState) → a ≡ b → same_state a b ≡ true
 test_state a b h =
     test_both (eqb a.pc b.pc) (bytes_eq a.root b.root) (test_number a.pc b.pc (ap (λ (s : SystemState). s.pc) h)) (test_bytes a.root b.root (ap (λ (s : SystemState). s.root) h))
 
-pub join_some : (a b : SpanClaim) → a.exit ≡ Split → a.after ≡ b.before → claim_join a b ≡ Some (joined a b)
+pub join_some : (a b : SpanClaim) → a.exit ≡ Split → a.after ≡ b.before → claim_join a b ≡ Some (joint_claim a b)
 join_some a b split meets =
-    ap (λ (t : Bool). cond t (Some (joined a b)) None)
+    ap (λ (t : Bool). cond t (Some (joint_claim a b)) None)
     (test_both (is_split a.exit) (same_state a.after b.before) (ap is_split split) (test_state a.after b.before meets))
 
 some_seals : (H : List ℕ → List ℕ) (xs : List Seal) (a : SpanClaim) → chain_of H xs ≡ Some a → xs ≢ []
@@ -76,6 +76,6 @@ some_seals H [] a h = absurd (cc)
 some_seals H (x ∷ xs) a h = not_none x xs
 
 pub chain_joined : (H : List ℕ → List ℕ) (xs ys : List Seal) (a b : SpanClaim) → chain_of H xs ≡ Some a → chain_of H ys ≡ Some b → a.exit ≡ Split → a.after ≡ b.before
-    → chain_of H (xs ++ ys) ≡ Some (joined a b)
+    → chain_of H (xs ++ ys) ≡ Some (joint_claim a b)
 chain_joined H xs ys a b left right split meets =
     chains_join H xs ys (some_seals H xs a left) (some_seals H ys b right) ∙ ap₂ join_both left right ∙ join_some a b split meets

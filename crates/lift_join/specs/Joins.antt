@@ -17,12 +17,12 @@ is_split Split = true
 is_split (HaltedWith code) = false
 
 -- two claims as one
-abbrev pub joined : SpanClaim → SpanClaim → SpanClaim
-joined a b = record { before = a.before; after = b.after; exit = b.exit; journal = a.journal ++ b.journal; calls = a.calls ++ b.calls }
+abbrev pub joint_claim : SpanClaim → SpanClaim → SpanClaim
+joint_claim a b = record { before = a.before; after = b.after; exit = b.exit; journal = a.journal ++ b.journal; calls = a.calls ++ b.calls }
 
 -- defined where the left one is split and the right one begins where it ends
 abbrev pub claim_join : SpanClaim → SpanClaim → Option SpanClaim
-claim_join a b = cond (is_split a.exit && same_state a.after b.before) (Some (joined a b)) None
+claim_join a b = cond (is_split a.exit && same_state a.after b.before) (Some (joint_claim a b)) None
 
 abbrev pub join_both : Option SpanClaim → Option SpanClaim → Option SpanClaim
 join_both (Some a) (Some b) = claim_join a b

@@ -1,5 +1,5 @@
 ghost use Rattle.std.specs.Prelude.{◌≡◌, IfOk, OnErr, IfErr};
-ghost use Rattle.lift_join.specs.Joins.{joined};
+ghost use Rattle.lift_join.specs.Joins.{joint_claim};
 
 use claim_types::SpanClaim;
 
@@ -7,7 +7,7 @@ use claim_types::SpanClaim;
 /// the state after and the exit of the second, and the journals and assumption calls of both. Err is want
 /// of memory: it hands the second back, and the first is as before.
 pub fn append(claim: &mut SpanClaim, next: SpanClaim) -> Result<(), SpanClaim>
-    ensures ok { IfOk result (λ _. claim.new ≡ joined claim.old next) }
+    ensures ok { IfOk result (λ _. claim.new ≡ joint_claim claim.old next) }
     ensures err { OnErr result (claim.new ≡ claim.old) }
     ensures handed_back { IfErr result (λ back. back ≡ next) }
 {

@@ -1,11 +1,12 @@
 ghost use Rattle.std.specs.Prelude.{◌≡◌, ◌%◌, ◌⊎◌, [], ◌∷◌, ◌++◌, Some, IfOk, IfErr, map};
 ghost use Rattle.std.specs.Arc.{arc_value};
 ghost use Rattle.claim_types.specs.declared.claim.Exit.TheVariants.{Split};
+ghost use Rattle.part_tree.specs.declared.sizes.TheConstants.{HEIGHT};
 ghost use Rattle.part_tree.specs.Part.{IsPart};
 ghost use Rattle.seal_replay.specs.declared.stop.ReplayStop.TheVariants.{Memory};
 ghost use Rattle.seal_replay.specs.Claiming.{claim_of};
 ghost use Rattle.seal_replay.specs.Replay.{stop_of};
-ghost use Rattle.lift_join.specs.Joins.{joined, chain_of};
+ghost use Rattle.lift_join.specs.Joins.{joint_claim, chain_of};
 
 use crate::appending::append;
 use claim_types::SpanClaim;
@@ -75,7 +76,7 @@ impl<D: Digester> Joined<D> {
 /// where the definition of the stops says so.
 pub fn lift<D: Digester>(alloc: Global, seal: Arc<Seal, Global>) -> Result<Joined<D>, ReplayStop>
     requires aligned { (arc_value seal).pc % 4 ≡ 0 }
-    requires shape { IsPart 18 (arc_value seal).tree }
+    requires shape { IsPart HEIGHT (arc_value seal).tree }
     ensures seals { IfOk result (λ lifted. lifted.seals ≡ arc_value seal ∷ []) }
     ensures claim { IfOk result (λ lifted. claim_of D.digest_of (arc_value seal) ≡ Some lifted.claim) }
     ensures stop { IfErr result (λ stop. (stop ≡ Memory) ⊎ (stop_of (arc_value seal) ≡ Some stop)) }
@@ -95,7 +96,7 @@ pub fn join<D: Digester>(
     requires split { left.claim.exit ≡ Split }
     requires meets { left.claim.after ≡ right.claim.before }
     ensures seals { IfOk result (λ whole. whole.seals ≡ left.seals ++ right.seals) }
-    ensures claim { IfOk result (λ whole. whole.claim ≡ joined left.claim right.claim) }
+    ensures claim { IfOk result (λ whole. whole.claim ≡ joint_claim left.claim right.claim) }
     ensures handed_back { IfErr result (λ back. (back.0 ≡ left) × (back.1 ≡ right)) }
 {
     let Joined {

@@ -5,7 +5,7 @@ use Rattle.std.proofs.lemmas.Slice.Eq.{bytes_eq-Decides}
 use Rattle.std.proofs.lemmas.Bool.{cases_Bool}
 use Rattle.std.proofs.lemmas.List.{get_or_read_under, get_or_default}
 use Rattle.std.proofs.Common.{inl, inr}
-use Rattle.outside.specs.Files.{stored}
+use Rattle.outside.specs.Files.{files_with}
 use Rattle.outside.specs.NamedFile.{NamedFile, PassedBy, HasRoom, files_of, with_bytes, no_file, StandsAt}
 
 -- one more file without the name
@@ -78,7 +78,7 @@ differs n q m same apart =
 -- what any name q holds once the first file of the name n is filled
 placed-stored : (i : ℕ) (fs : List NamedFile) (n q bytes : List ℕ)
     → PassedBy i fs n → i < length fs → bytes_eq n (get_or fs i no_file).name ≡ true
-    → files_of (set fs i (filled (get_or fs i no_file) bytes)) q ≡ stored n bytes (files_of fs) q
+    → files_of (set fs i (filled (get_or fs i no_file) bytes)) q ≡ files_with n bytes (files_of fs) q
 placed-stored zero [] n q bytes p h e = absurd (omega arith)
 placed-stored zero (f ∷ fs) n q bytes p h e =
     let same : n ≡ f.name = (bytes_eq-Decides n f.name).0 e in
@@ -98,9 +98,9 @@ placed-stored (suc i) (f ∷ fs) n q bytes p h e =
 -- to fill the file of a name is to store the bytes under it
 pub stands-stored : (fs : List NamedFile) (n bytes : List ℕ) (i : ℕ) (d y : NamedFile)
     → StandsAt fs n i → y ≡ filled (get_or fs i d) bytes
-    → files_of (set fs i y) ≡ stored n bytes (files_of fs)
+    → files_of (set fs i y) ≡ files_with n bytes (files_of fs)
 stands-stored fs n bytes i d y s is = λ t q.
-    let pointwise : files_of (set fs i y) q ≡ stored n bytes (files_of fs) q =
+    let pointwise : files_of (set fs i y) q ≡ files_with n bytes (files_of fs) q =
     rw (is, get_or_default fs i d no_file s.within)
     (placed-stored i fs n q bytes s.passed s.within s.named) in
     pointwise t

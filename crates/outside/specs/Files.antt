@@ -7,8 +7,8 @@ abbrev pub Files : Type 0
 Files = List ℕ → Option (List ℕ)
 
 -- the files once `name` holds `bytes`
-abbrev pub stored : List ℕ → List ℕ → Files → Files
-stored name bytes files = λ n. if bytes_eq n name then Some bytes else files n
+abbrev pub files_with : List ℕ → List ℕ → Files → Files
+files_with name bytes files = λ n. if bytes_eq n name then Some bytes else files n
 
 -- a read of `name` from `at` left these bytes in the buffer: n of them are the next n bytes of the file,
 -- and there are none only at its end or with no room; or the name is absent
@@ -20,11 +20,11 @@ ReadsAt files name at buffer (Some n) = IsSomeAnd (files name) (λ bytes.
 
 -- a write makes the name hold the bytes; one that failed makes it hold a prefix of them, or changes nothing
 abbrev pub Writes : {T E : Type 0} → List ℕ → List ℕ → Option Files → Option Files → Result T E → Type 0
-Writes name bytes old new (Ok _) = new ≡ option_map (stored name bytes) old
+Writes name bytes old new (Ok _) = new ≡ option_map (files_with name bytes) old
 Writes name bytes old new (Err _) =
-    (new ≡ old) ⊎ ((k : ℕ) × (new ≡ option_map (stored name (take k bytes)) old))
+    (new ≡ old) ⊎ ((k : ℕ) × (new ≡ option_map (files_with name (take k bytes)) old))
 
 -- a put appends the bytes; one that failed appends a prefix of them
-abbrev pub Puts : {T E : Type 0} → List ℕ → Option (List ℕ) → Option (List ℕ) → Result T E → Type 0
-Puts bytes old new (Ok _) = new ≡ append_known old bytes
-Puts bytes old new (Err _) = (k : ℕ) × (new ≡ append_known old (take k bytes))
+abbrev pub PutsBytes : {T E : Type 0} → List ℕ → Option (List ℕ) → Option (List ℕ) → Result T E → Type 0
+PutsBytes bytes old new (Ok _) = new ≡ append_known old bytes
+PutsBytes bytes old new (Err _) = (k : ℕ) × (new ≡ append_known old (take k bytes))

@@ -1,7 +1,7 @@
 //! A sink in memory, which tells what it took.
 ghost use Rattle.std.specs.Prelude.{◌≡◌, ◌+◌, ◌-◌, ◌<◌, ◌≤◌, ◌⊎◌, ◌↔◌, ◌++◌, length, IfOk, IsErr, IsTrue, OnOk, OnErr, Contains};
 ghost use Rattle.outside.specs.Faults.{CountsFaults, next_count};
-ghost use Rattle.outside.specs.Files.{Puts};
+ghost use Rattle.outside.specs.Files.{PutsBytes};
 
 use crate::places::is_listed;
 use crate::traits::{Failed, Sink};
@@ -86,7 +86,7 @@ impl Sink for MemSink {
     ghost faults = { λ s. s.faults };
 
     fn put(&mut self, bytes: &[u8]) -> Result<(), Failed>
-        ensures told { Puts bytes.now (Some self.old.taken) (Some self.new.taken) result }
+        ensures told { PutsBytes bytes.now (Some self.old.taken) (Some self.new.taken) result }
         ensures cause { CountsFaults self.old.faults self.new.faults result }
         ensures counted { self.new.calls ≤ self.old.calls + 1 }
 

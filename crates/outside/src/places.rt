@@ -2,7 +2,7 @@
 ghost use Rattle.std.specs.Prelude.{◌≡◌, ◌↔◌, length, IfSome, IfNone, IsTrue, Contains, min, take, drop, ◌-◌};
 ghost use Rattle.std.specs.Bool.{OnTrue, OnFalse};
 ghost use Rattle.std.specs.Option.{option_copied};
-ghost use Rattle.outside.specs.Files.{stored};
+ghost use Rattle.outside.specs.Files.{files_with};
 ghost use Rattle.outside.specs.NamedFile.{files_of, with_bytes, HasRoom, PassedBy, StandsAt};
 
 use crate::slot::Slot;
@@ -31,7 +31,7 @@ pub(crate) fn held<'a>(files: &'a [Slot], name: &[u8]) -> Option<&'a [u8]>
 // Makes a name hold the bytes, where its file has room for them.
 pub(crate) fn store(files: &mut [Slot], name: &[u8], bytes: &[u8]) -> bool
     ensures room { IsTrue result ↔ HasRoom files.old name.now (length bytes.now) }
-    ensures stored { OnTrue result (files_of files.new ≡ stored name.now bytes.now (files_of files.old)) }
+    ensures stored { OnTrue result (files_of files.new ≡ files_with name.now bytes.now (files_of files.old)) }
     ensures files { OnTrue result (files.new ≡ with_bytes name.now bytes.now files.old) }
     ensures kept { OnFalse result (files.new ≡ files.old) }
 {

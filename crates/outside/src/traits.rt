@@ -1,7 +1,7 @@
 //! The two traits through which a program reaches what is outside it.
 ghost use Rattle.std.specs.Prelude.{◌≡◌, ℕ, ◌+◌, ◌≤◌, List, length, Option, IfOk, IfSome};
 ghost use Rattle.outside.specs.Faults.{CountsFaults};
-ghost use Rattle.outside.specs.Files.{Files, ReadsAt, Writes, Puts};
+ghost use Rattle.outside.specs.Files.{Files, ReadsAt, Writes, PutsBytes};
 
 /// A read, a write or a put failed. The fault was counted by what failed.
 #[derive(Clone, Copy, Debug, PartialEq, Eq)]
@@ -61,7 +61,7 @@ pub trait Sink {
     /// Appends these bytes to the stream. Failed: the count of faults rose, and a prefix of the
     /// bytes was appended.
     fn put(&mut self, bytes: &[u8]) -> Result<(), Failed>
-        ensures told { Puts bytes.now (taken self.old) (taken self.new) result }
+        ensures told { PutsBytes bytes.now (taken self.old) (taken self.new) result }
         ensures cause { CountsFaults (faults self.old) (faults self.new) result }
         ensures counted { calls self.new ≤ calls self.old + 1 };
 }

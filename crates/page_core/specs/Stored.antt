@@ -3,15 +3,16 @@ use Rattle.std.specs.Prelude.{◌≡◌, ⊤, ℕ, ◌+◌, ◌<◌, ◌≤◌, 
 use Rattle.page_core.specs.Memory.{is_among}
 use Rattle.page_core.specs.Pages.{Pages, IsPage, zero_page}
 use Rattle.page_core.specs.Memories.{flat}
+use Rattle.page_core.specs.declared.sizes.TheConstants.{PAGES}
 
 -- pages with their numbers, ascending
 abbrev pub Stored : Type 0
 Stored = List (ℕ × List ℕ)
 
--- the numbers ascend from this one on and are below 2 ^ 18, and each page has its bytes
+-- the numbers ascend from this one on and are those of pages of a memory, and each page has its bytes
 abbrev pub IsStoredFrom : ℕ → Stored → Type 0
 IsStoredFrom least [] = ⊤
-IsStoredFrom least (p ∷ ps) = (least ≤ p.0) × (p.0 < 262144) × IsPage p.1 × IsStoredFrom (p.0 + 1) ps
+IsStoredFrom least (p ∷ ps) = (least ≤ p.0) × (p.0 < PAGES) × IsPage p.1 × IsStoredFrom (p.0 + 1) ps
 
 -- the page with this number, if it is stored
 abbrev pub stored_at : Stored → ℕ → Option (List ℕ)

@@ -2,6 +2,7 @@ ghost use Rattle.std.specs.Prelude.{◌≡◌, ◌≢◌, ◌⊎◌, ◌||◌, i
 ghost use Rattle.std.specs.Int.{w16, w32, to_le_bytes, from_le_bytes};
 ghost use Rattle.page_core.specs.Memory.{bytes, put, pages_of, is_among};
 ghost use Rattle.page_core.specs.Stored.{IsStoredFrom, stored_at, first_from, stored_pages, memory_of, StoresAlso, StoresSome, IsAbsentAmong};
+ghost use Rattle.page_core.specs.declared.sizes.TheConstants.{PAGES};
 
 use crate::Page;
 use std::alloc::{AllocError, Global};
@@ -104,7 +105,7 @@ impl PageMap {
     /// Puts a page under a number up to 262,143. Where the page is stored it takes no memory; an AllocError is
     /// want of memory, and then nothing is changed.
     pub fn put_page(&mut self, page: u32, content: &Page) -> Result<(), AllocError>
-        requires { page < 262144 }
+        requires { page < PAGES }
         ensures put { OnOk result (stored_at self.new page ≡ Some content.now) }
         ensures others { (n : ℕ) → n ≢ page → stored_at self.new n ≡ stored_at self.old n }
         ensures absent { OnErr result (stored_at self.old page ≡ None) }
@@ -187,7 +188,7 @@ impl PageMap {
 
     // Puts bytes at a place in a page, and stores the page. A page that is stored is changed where it is.
     fn overwrite(&mut self, page: u32, at: usize, bytes: &[u8]) -> Result<(), AllocError>
-        requires below { page < 262144 }
+        requires below { page < PAGES }
         requires fits { at + length bytes.now ≤ 1024 }
         ensures put { let old = stored_pages self.old page in OnOk result (stored_at self.new page ≡ Some (take at old ++ (bytes.now ++ drop (at + length bytes.now) old))) }
         ensures length { length (stored_pages self.old page) ≡ 1024 }

@@ -4,6 +4,7 @@ use Rattle.page_core.specs.Memory.{ascending}
 use Rattle.page_core.specs.Pages.{Pages, IsPage, zero_page}
 use Rattle.page_core.specs.Stored.{Stored, stored_pages}
 use Rattle.part_tree.specs.Tree.{node, IsBelow}
+use Rattle.page_core.specs.declared.sizes.TheConstants.{PAGES}
 
 -- bare where no page is stored below
 pub data Grown : Type 0 where
@@ -30,10 +31,10 @@ IsGrown H zero (fork digest left right) = ⊥
 IsGrown H (suc h) (fork digest left right) = (digest ≡ H (digest_at H h left ++ digest_at H h right)) × IsGrown H h left × IsGrown H h right
 
 -- how many pages are stored, and how many nodes have a digest of their own
-abbrev pub page_count : Grown → ℕ
-page_count bare = 0
-page_count (stored digest page) = 1
-page_count (fork digest left right) = page_count left + page_count right
+abbrev pub stored_count : Grown → ℕ
+stored_count bare = 0
+stored_count (stored digest page) = 1
+stored_count (fork digest left right) = stored_count left + stored_count right
 
 abbrev pub node_count : Grown → ℕ
 node_count bare = 0
@@ -53,7 +54,7 @@ nodes_up_to (suc h) pages = length (nodes_over (suc h) pages) + nodes_up_to h pa
 abbrev pub IsFull : Grown → Type 0
 IsFull bare = ⊤
 IsFull (stored digest page) = ⊤
-IsFull (fork digest left right) = (1 ≤ page_count left + page_count right) × IsFull left × IsFull right
+IsFull (fork digest left right) = (1 ≤ stored_count left + stored_count right) × IsFull left × IsFull right
 
 -- the pages that are stored under node i, ascending
 abbrev pub stored_in : ℕ → Grown → Stored
@@ -70,7 +71,7 @@ stored_below h i (p ∷ ps) = if p.0 / 2 ^ h == i then p ∷ stored_below h i ps
 abbrev pub Holds : ℕ → ℕ → Grown → Pages → Type 0
 Holds h i t m = (number : ℕ) → IsBelow h i number → m number ≡ stored_pages (stored_in i t) number
 
--- page numbers ascend from this one on and are below 2 ^ 18
+-- page numbers ascend from this one on and are those of pages of a memory
 abbrev pub AscendFrom : ℕ → List ℕ → Type 0
 AscendFrom least [] = ⊤
-AscendFrom least (p ∷ ps) = (least ≤ p) × (p < 262144) × AscendFrom (p + 1) ps
+AscendFrom least (p ∷ ps) = (least ≤ p) × (p < PAGES) × AscendFrom (p + 1) ps

@@ -4,7 +4,7 @@ use Rattle.page_tree.specs.declared.nodes.Node.TheVariants.{Bare, Stored, Fork'}
 use Rattle.page_tree.specs.Grown.{Grown, bare, stored, fork}
 
 -- the tree without where it lies in memory
-abbrev pub grown : Node → Grown
-grown Bare = bare
-grown (Stored digest page) = stored digest page.value
-grown (Fork' digest p left q right) = fork digest (grown left) (grown right)
+abbrev pub grown_of : Node → Grown
+grown_of Bare = bare
+grown_of (Stored digest page) = stored digest page.value
+grown_of (Fork' digest p left q right) = fork digest (grown_of left) (grown_of right)

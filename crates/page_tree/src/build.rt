@@ -1,7 +1,8 @@
 ghost use Rattle.std.specs.Prelude.{◌≡◌, ◌-◌, ◌^◌, ◌<◌, ◌≤◌, [], ◌∷◌, length, IfOk, IfSome, IfNone};
 ghost use Rattle.page_core.specs.Stored.{IsStoredFrom};
 ghost use Rattle.page_tree.specs.Grown.{IsGrown, IsFull, stored_in, stored_below};
-ghost use Rattle.page_tree.specs.Views.{grown};
+ghost use Rattle.page_tree.specs.Views.{grown_of};
+ghost use Rattle.part_tree.specs.declared.sizes.TheConstants.{HEIGHT};
 
 use crate::nodes::Node;
 use crate::zeros::ZeroNodes;
@@ -17,11 +18,11 @@ pub(crate) fn grow<D: Digester>(
     height: u32,
     index: u32,
 ) -> Result<Node, AllocError>
-    requires low { height ≤ 18 }
-    requires fits { index < 2 ^ (18 - height) }
-    ensures grown { IfOk result (λ n. IsGrown D.digest_of height (grown n)) }
-    ensures full { IfOk result (λ n. IsFull (grown n)) }
-    ensures stored { IfOk result (λ n. stored_in index (grown n) ≡ stored_below height index map.now) }
+    requires low { height ≤ HEIGHT }
+    requires fits { index < 2 ^ (HEIGHT - height) }
+    ensures grown { IfOk result (λ n. IsGrown D.digest_of height (grown_of n)) }
+    ensures full { IfOk result (λ n. IsFull (grown_of n)) }
+    ensures stored { IfOk result (λ n. stored_in index (grown_of n) ≡ stored_below height index map.now) }
     ensures numbers { IsStoredFrom 0 map.now }
 {
     let Some(page) = first_below(map, height, index) else {
@@ -45,8 +46,8 @@ pub(crate) fn grow<D: Digester>(
 
 // The first stored page at or below a node.
 fn first_below(map: &PageMap, height: u32, index: u32) -> Option<&Page>
-    requires low { height ≤ 18 }
-    requires fits { index < 2 ^ (18 - height) }
+    requires low { height ≤ HEIGHT }
+    requires fits { index < 2 ^ (HEIGHT - height) }
     ensures some { IfSome result (λ page. 1 ≤ length (stored_below height index map.now)) }
     ensures none { IfNone result (stored_below height index map.now ≡ []) }
     ensures page { IfSome result (λ page. height ≡ 0 → stored_below height index map.now ≡ (index, page.now) ∷ []) }

@@ -3,7 +3,8 @@ ghost use Rattle.page_core.specs.Pages.{Pages};
 ghost use Rattle.page_core.specs.Stored.{stored_at};
 ghost use Rattle.part_tree.specs.Tree.{node, IsBelow};
 ghost use Rattle.page_tree.specs.Grown.{digest_at, IsGrown, Holds, node_count, stored_in};
-ghost use Rattle.page_tree.specs.Views.{grown};
+ghost use Rattle.page_tree.specs.Views.{grown_of};
+ghost use Rattle.part_tree.specs.declared.sizes.TheConstants.{HEIGHT};
 
 use crate::zeros::ZeroNodes;
 use digest_core::{Digest, Digester};
@@ -23,8 +24,8 @@ pub(crate) enum Node {
 impl Node {
     // The digest of this node.
     pub(crate) fn digest<D: Digester>(&self, height: u32, zeros: &ZeroNodes<D>) -> Digest
-        requires { height ≤ 18 }
-        ensures { result ≡ digest_at D.digest_of height (grown self.now) }
+        requires { height ≤ HEIGHT }
+        ensures { result ≡ digest_at D.digest_of height (grown_of self.now) }
     {
         match self {
             Node::Bare => zeros.at(height),
@@ -35,9 +36,9 @@ impl Node {
 
     // The number of nodes that have a digest of their own, this one among them.
     pub(crate) fn count<D: Digester>(&self, height: u32) -> u32
-        requires low { height ≤ 18 }
-        requires grown { IsGrown D.digest_of height (grown self.now) }
-        ensures count { result ≡ node_count (grown self.now) }
+        requires low { height ≤ HEIGHT }
+        requires grown { IsGrown D.digest_of height (grown_of self.now) }
+        ensures count { result ≡ node_count (grown_of self.now) }
         ensures few { result < 2 ^ (height + 1) }
     {
         match self {
@@ -56,10 +57,10 @@ impl Node {
         index: u32,
         number: u32,
     ) -> Option<&Page>
-        requires low { height ≤ 18 }
-        requires grown { IsGrown D.digest_of height (grown self.now) }
+        requires low { height ≤ HEIGHT }
+        requires grown { IsGrown D.digest_of height (grown_of self.now) }
         requires below { IsBelow height index number }
-        ensures { option_map (λ page. page.now) result ≡ stored_at (stored_in index (grown self.now)) number }
+        ensures { option_map (λ page. page.now) result ≡ stored_at (stored_in index (grown_of self.now)) number }
     {
         match self {
             Node::Bare => None,
@@ -83,10 +84,10 @@ impl Node {
         height: u32,
         index: u32,
     ) -> Digest
-        requires low { at ≤ 18 }
+        requires low { at ≤ HEIGHT }
         requires above { height ≤ at }
-        requires grown { IsGrown D.digest_of at (grown self.now) }
-        ensures { (m : Pages) → Holds at (index / 2 ^ (at - height)) (grown self.now) m → result ≡ node D.digest_of m height index }
+        requires grown { IsGrown D.digest_of at (grown_of self.now) }
+        ensures { (m : Pages) → Holds at (index / 2 ^ (at - height)) (grown_of self.now) m → result ≡ node D.digest_of m height index }
     {
         match self {
             Node::Bare => zeros.at(height),

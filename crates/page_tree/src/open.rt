@@ -4,7 +4,8 @@ ghost use Rattle.part_tree.specs.Tree.{IsBelow};
 ghost use Rattle.part_tree.specs.Part.{branch, leaf, part_of};
 ghost use Rattle.part_tree.specs.Views.{part};
 ghost use Rattle.page_tree.specs.Grown.{bare, IsGrown, Holds, AscendFrom};
-ghost use Rattle.page_tree.specs.Views.{grown};
+ghost use Rattle.page_tree.specs.Views.{grown_of};
+ghost use Rattle.part_tree.specs.declared.sizes.TheConstants.{HEIGHT};
 
 use crate::nodes::Node;
 use crate::zeros::ZeroNodes;
@@ -22,12 +23,12 @@ pub(crate) fn open_below<D: Digester>(
     index: u32,
     pages: &[u32],
 ) -> Result<PartTree, AllocError>
-    requires low { height ≤ 18 }
-    requires fits { index < 2 ^ (18 - height) }
-    requires grown { IsGrown D.digest_of height (grown at.now) }
+    requires low { height ≤ HEIGHT }
+    requires fits { index < 2 ^ (HEIGHT - height) }
+    requires grown { IsGrown D.digest_of height (grown_of at.now) }
     requires below { All (IsBelow height index) pages.now }
     requires ascending { AscendFrom 0 pages.now }
-    ensures { IfOk result (λ tree. (m : Pages) → Holds height index (grown at.now) m → part tree ≡ part_of D.digest_of m pages.now height index) }
+    ensures { IfOk result (λ tree. (m : Pages) → Holds height index (grown_of at.now) m → part tree ≡ part_of D.digest_of m pages.now height index) }
 {
     if pages.is_empty() {
         return Ok(PartTree::Pruned(at.digest(height, zeros)));
@@ -52,8 +53,8 @@ fn open_bare<D: Digester>(
     index: u32,
     pages: &[u32],
 ) -> Result<PartTree, AllocError>
-    requires low { height ≤ 18 }
-    requires fits { index < 2 ^ (18 - height) }
+    requires low { height ≤ HEIGHT }
+    requires fits { index < 2 ^ (HEIGHT - height) }
     requires below { All (IsBelow height index) pages.now }
     requires ascending { AscendFrom 0 pages.now }
     ensures { IfOk result (λ tree. (m : Pages) → Holds height index bare m → part tree ≡ part_of D.digest_of m pages.now height index) }
@@ -89,8 +90,8 @@ fn branch(alloc: Global, left: PartTree, right: PartTree) -> Result<PartTree, Al
 // The pages below each side of a node, of pages that are all below it and ascend.
 fn sides_of(pages: &[u32], height: u32, index: u32) -> (&[u32], &[u32])
     requires some { 1 ≤ height }
-    requires low { height ≤ 18 }
-    requires fits { index < 2 ^ (18 - height) }
+    requires low { height ≤ HEIGHT }
+    requires fits { index < 2 ^ (HEIGHT - height) }
     requires below { All (IsBelow height index) pages.now }
     requires ascending { AscendFrom 0 pages.now }
     ensures all { pages.now ≡ result.0.now ++ result.1.now }

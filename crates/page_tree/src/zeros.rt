@@ -1,5 +1,6 @@
 ghost use Rattle.std.specs.Prelude.{◌≡◌, ◌≤◌, ℕ, get_or, []};
 ghost use Rattle.page_tree.specs.Grown.{zero_node};
+ghost use Rattle.part_tree.specs.declared.sizes.TheConstants.{HEIGHT};
 
 use digest_core::{Digest, Digester};
 use std::marker::PhantomData;
@@ -9,7 +10,7 @@ use std::marker::PhantomData;
 pub(crate) struct ZeroNodes<D: Digester> {
     digests: [Digest; 19],
     of: PhantomData<D>,
-    ghost are: { (h : ℕ) → h ≤ 18 → get_or digests h [] ≡ zero_node D.digest_of h },
+    ghost are: { (h : ℕ) → h ≤ HEIGHT → get_or digests h [] ≡ zero_node D.digest_of h },
 }
 
 impl<D: Digester> ZeroNodes<D> {
@@ -28,7 +29,7 @@ impl<D: Digester> ZeroNodes<D> {
     }
 
     pub(crate) fn at(&self, height: u32) -> Digest
-        requires { height ≤ 18 }
+        requires { height ≤ HEIGHT }
         ensures { result ≡ zero_node D.digest_of height }
     {
         self.digests[height as usize]

@@ -4,18 +4,18 @@ use Rattle.std.specs.Prelude.{Contains}
 use Rattle.std.proofs.lemmas.List.Elements.{Contains-append_cases}
 use Rattle.page_core.specs.Pages.{Pages}
 use Rattle.part_tree.specs.Tree.{node, node_string, tree_strings, IsBelow}
-use Rattle.part_tree.specs.Part.{Part, pruned, branch, leaf, root_of, part_strings, opened, put, Agree}
+use Rattle.part_tree.specs.Part.{Part, pruned, branch, leaf, root_of, part_strings, open_numbers, put_part, Agree}
 use Rattle.part_tree.specs.Laws.{SameUnopened, PutKeepsAgreement, PutHasNewStrings}
 use Rattle.part_tree.proofs.Below.{below_left, below_right, below_one, below_itself}
 use Rattle.part_tree.proofs.Strings.{Contains-one, of_top, of_left, of_right}
 
 module _ (H : List ℕ → List ℕ) where
   -- each open page of a tree that agrees is below its node
-  pub opened_below : (m : Pages) (h i page : ℕ) (t : Part) → Agree H m h i t → Contains (opened i t) page → IsBelow h i page
+  pub opened_below : (m : Pages) (h i page : ℕ) (t : Part) → Agree H m h i t → Contains (open_numbers i t) page → IsBelow h i page
   opened_below m h i page (pruned digest) agree is_open = absurd (omega (arith, is_open.1))
   opened_below m zero i page (branch left right) agree is_open = absurd agree
   opened_below m (suc h) i page (branch left right) agree is_open =
-      elim (Contains-append_cases (opened (2 * i) left) (opened (2 * i + 1) right) page is_open) [
+      elim (Contains-append_cases (open_numbers (2 * i) left) (open_numbers (2 * i + 1) right) page is_open) [
         | inl l ↦ below_left h i page (opened_below m h (2 * i) page left agree.0 l)
         | inr r ↦ below_right h i page (opened_below m h (2 * i + 1) page right agree.1 r)
       ]
@@ -37,14 +37,14 @@ module _ (H : List ℕ → List ℕ) where
   -- what is the same but for open pages is the same but for those of each side
   same_left : (m m' : Pages) (h i : ℕ) (left right : Part) → Agree H m h (2 * i + 1) right → SameUnopened m m' (suc h) i (branch left right) → SameUnopened m m' h (2 * i) left
   same_left m m' h i left right agree same page b closed =
-      same page (below_left h i page b) (λ is_open. elim (Contains-append_cases (opened (2 * i) left) (opened (2 * i + 1) right) page is_open) [
+      same page (below_left h i page b) (λ is_open. elim (Contains-append_cases (open_numbers (2 * i) left) (open_numbers (2 * i + 1) right) page is_open) [
         | inl l ↦ closed l
         | inr r ↦ below_one h i page b (opened_below m h (2 * i + 1) page right agree r)
       ])
 
   same_right : (m m' : Pages) (h i : ℕ) (left right : Part) → Agree H m h (2 * i) left → SameUnopened m m' (suc h) i (branch left right) → SameUnopened m m' h (2 * i + 1) right
   same_right m m' h i left right agree same page b closed =
-      same page (below_right h i page b) (λ is_open. elim (Contains-append_cases (opened (2 * i) left) (opened (2 * i + 1) right) page is_open) [
+      same page (below_right h i page b) (λ is_open. elim (Contains-append_cases (open_numbers (2 * i) left) (open_numbers (2 * i + 1) right) page is_open) [
         | inl l ↦ below_one h i page (opened_below m h (2 * i) page left agree l) b
         | inr r ↦ closed r
       ])
@@ -95,11 +95,11 @@ module _ (H : List ℕ → List ℕ) where
   put_has_new_strings m m' (suc h) i (branch left right) agree same x c =
       let of_l = same_left m m' h i left right agree.1 same in
       let of_r = same_right m m' h i left right agree.0 same in
-      let l = root_of-agree m' h (2 * i) (put (2 * i) left m') (put_keeps_agreement m m' h (2 * i) left agree.0 of_l) in
-      let r = root_of-agree m' h (2 * i + 1) (put (2 * i + 1) right m') (put_keeps_agreement m m' h (2 * i + 1) right agree.1 of_r) in
-      sides (node_string H m' (suc h) i) (node_string H m (suc h) i) (root_of H (put (2 * i) left m') ++ root_of H (put (2 * i + 1) right m'))
+      let l = root_of-agree m' h (2 * i) (put_part (2 * i) left m') (put_keeps_agreement m m' h (2 * i) left agree.0 of_l) in
+      let r = root_of-agree m' h (2 * i + 1) (put_part (2 * i + 1) right m') (put_keeps_agreement m m' h (2 * i + 1) right agree.1 of_r) in
+      sides (node_string H m' (suc h) i) (node_string H m (suc h) i) (root_of H (put_part (2 * i) left m') ++ root_of H (put_part (2 * i + 1) right m'))
       (tree_strings H m' h (2 * i)) (tree_strings H m' h (2 * i + 1)) (tree_strings H m h (2 * i)) (tree_strings H m h (2 * i + 1))
-      (part_strings H (put (2 * i) left m')) (part_strings H (put (2 * i + 1) right m')) x (rw (l, r) refl)
+      (part_strings H (put_part (2 * i) left m')) (part_strings H (put_part (2 * i + 1) right m')) x (rw (l, r) refl)
       (put_has_new_strings m m' h (2 * i) left agree.0 of_l) (put_has_new_strings m m' h (2 * i + 1) right agree.1 of_r) c
   put_has_new_strings m m' zero i (leaf page) agree same x c = inr c
   put_has_new_strings m m' (suc h) i (leaf page) agree same x c = absurd agree

@@ -4,7 +4,7 @@ use Rattle.std.specs.Option.{option_or}
 use Rattle.std.proofs.lemmas.Bool.Decides.{nat_tests, eqb_tells}
 use Rattle.part_tree.specs.Tree.{IsBelow}
 use Rattle.page_core.specs.Pages.{Pages, zero_page, with_page}
-use Rattle.part_tree.specs.Part.{Part, pruned, branch, leaf, IsPart, HasPages, page_at, opened, fill, put}
+use Rattle.part_tree.specs.Part.{Part, pruned, branch, leaf, IsPart, HasPages, page_at, open_numbers, fill, put_part}
 use Rattle.part_tree.proofs.Strings.{Contains-one}
 use Rattle.part_tree.proofs.Below.{below_left, below_right, below_one, below_itself, side_left, side_right}
 use Rattle.std.specs.Prelude.{unwrap_or, option_map, is_some, IsSome, Contains, if◌then◌else◌}
@@ -73,7 +73,7 @@ HasPages-right h i left right m shape has number b =
     has number (below_right h i number b) ∙ ap (λ (o : Option (List ℕ)). unwrap_or o zero_page) (page_at-below_right h i number left right shape b)
 
 -- putting the pages that are there changes nothing
-pub put-same : (h i : ℕ) (t : Part) (m : Pages) → IsPart h t → HasPages h i t m → put i t m ≡ t
+pub put-same : (h i : ℕ) (t : Part) (m : Pages) → IsPart h t → HasPages h i t m → put_part i t m ≡ t
 put-same h i (pruned digest) m shape has = refl
 put-same zero i (branch left right) m shape has = absurd shape
 put-same (suc h) i (branch left right) m shape has =
@@ -83,7 +83,7 @@ put-same zero i (leaf page) m shape has =
 put-same (suc h) i (leaf page) m shape has = absurd shape
 
 -- nor does it where one page differs that is elsewhere
-put-same_elsewhere : (h i number : ℕ) (bytes : List ℕ) (t : Part) (m : Pages) → IsPart h t → HasPages h i t m → (IsBelow h i number → ⊥) → put i t (with_page m number bytes) ≡ t
+put-same_elsewhere : (h i number : ℕ) (bytes : List ℕ) (t : Part) (m : Pages) → IsPart h t → HasPages h i t m → (IsBelow h i number → ⊥) → put_part i t (with_page m number bytes) ≡ t
 put-same_elsewhere h i number bytes t m shape has elsewhere =
     put-same h i t (with_page m number bytes) shape (λ p b.
     let other : p ≢ number = λ e. elsewhere (subst (λ (n : ℕ). IsBelow h i n) e b) in
@@ -92,8 +92,8 @@ put-same_elsewhere h i number bytes t m shape has elsewhere =
 -- a write of a page of the left side changes that side alone
 pub put-left : (height i number : ℕ) (bytes : List ℕ) (left right new : Part) → IsPart height (branch left right) → IsBelow height i number
     → number / 2 ^ (height - 1) % 2 ≡ 0
-    → ((m : Pages) → HasPages (height - 1) (number / 2 ^ (height - 1)) left m → new ≡ put (number / 2 ^ (height - 1)) left (with_page m number bytes))
-    → (m : Pages) → HasPages height i (branch left right) m → branch new right ≡ put i (branch left right) (with_page m number bytes)
+    → ((m : Pages) → HasPages (height - 1) (number / 2 ^ (height - 1)) left m → new ≡ put_part (number / 2 ^ (height - 1)) left (with_page m number bytes))
+    → (m : Pages) → HasPages height i (branch left right) m → branch new right ≡ put_part i (branch left right) (with_page m number bytes)
 put-left zero i number bytes left right new shape below even made m has = absurd shape
 put-left (suc h) i number bytes left right new shape below even made m has =
     let at : suc h - 1 ≡ h = omega arith in
@@ -105,8 +105,8 @@ put-left (suc h) i number bytes left right new shape below even made m has =
 
 pub put-right : (height i number : ℕ) (bytes : List ℕ) (left right new : Part) → IsPart height (branch left right) → IsBelow height i number
     → number / 2 ^ (height - 1) % 2 ≢ 0
-    → ((m : Pages) → HasPages (height - 1) (number / 2 ^ (height - 1)) right m → new ≡ put (number / 2 ^ (height - 1)) right (with_page m number bytes))
-    → (m : Pages) → HasPages height i (branch left right) m → branch left new ≡ put i (branch left right) (with_page m number bytes)
+    → ((m : Pages) → HasPages (height - 1) (number / 2 ^ (height - 1)) right m → new ≡ put_part (number / 2 ^ (height - 1)) right (with_page m number bytes))
+    → (m : Pages) → HasPages height i (branch left right) m → branch left new ≡ put_part i (branch left right) (with_page m number bytes)
 put-right zero i number bytes left right new shape below odd made m has = absurd shape
 put-right (suc h) i number bytes left right new shape below odd made m has =
     let at : suc h - 1 ≡ h = omega arith in
@@ -130,23 +130,23 @@ some-or_cases : {A : Type 0} (a b : Option A) → IsSome (option_or a b) → IsS
 some-or_cases None b s = inr s
 some-or_cases (Some x) b s = inl refl
 
-pub opened_open : (i : ℕ) (t : Part) (number : ℕ) → Contains (opened i t) number → IsSome (page_at i t number)
+pub opened_open : (i : ℕ) (t : Part) (number : ℕ) → Contains (open_numbers i t) number → IsSome (page_at i t number)
 opened_open i (pruned digest) number c = absurd (omega (arith, c.1))
 opened_open i (branch left right) number c =
     some-or (page_at (2 * i) left number) (page_at (2 * i + 1) right number)
-    (elim (Contains-append_cases (opened (2 * i) left) (opened (2 * i + 1) right) number c) [
+    (elim (Contains-append_cases (open_numbers (2 * i) left) (open_numbers (2 * i + 1) right) number c) [
       | inl l ↦ inl (opened_open (2 * i) left number l)
       | inr r ↦ inr (opened_open (2 * i + 1) right number r)
     ])
 opened_open i (leaf page) number c =
     subst (λ (n : ℕ). IsSome (page_at i (leaf page) n)) (Contains-one i number c) (ap is_some (if-same i (Some page) None))
 
-pub open_opened : (i : ℕ) (t : Part) (number : ℕ) → IsSome (page_at i t number) → Contains (opened i t) number
+pub open_opened : (i : ℕ) (t : Part) (number : ℕ) → IsSome (page_at i t number) → Contains (open_numbers i t) number
 open_opened i (pruned digest) number s = cc
 open_opened i (branch left right) number s =
     elim (some-or_cases (page_at (2 * i) left number) (page_at (2 * i + 1) right number) s) [
-      | inl l ↦ Contains-append_left (opened (2 * i) left) (opened (2 * i + 1) right) number (open_opened (2 * i) left number l)
-      | inr r ↦ Contains-append_right (opened (2 * i) left) (opened (2 * i + 1) right) number (open_opened (2 * i + 1) right number r)
+      | inl l ↦ Contains-append_left (open_numbers (2 * i) left) (open_numbers (2 * i + 1) right) number (open_opened (2 * i) left number l)
+      | inr r ↦ Contains-append_right (open_numbers (2 * i) left) (open_numbers (2 * i + 1) right) number (open_opened (2 * i + 1) right number r)
     ]
 open_opened i (leaf page) number s =
     elim (eqb_tells number i) [
@@ -154,7 +154,7 @@ open_opened i (leaf page) number s =
       | inr n ↦ let no : is_some {T = List ℕ} None ≡ true = sym (ap is_some (if-other number i (Some page) None n.1)) ∙ s in cc
     ]
 
-pub page_at-put : (i : ℕ) (t : Part) (m : Pages) (number : ℕ) → page_at i (put i t m) number ≡ option_map (λ _. m number) (page_at i t number)
+pub page_at-put : (i : ℕ) (t : Part) (m : Pages) (number : ℕ) → page_at i (put_part i t m) number ≡ option_map (λ _. m number) (page_at i t number)
 page_at-put i (pruned digest) m number = refl
 page_at-put i (branch left right) m number =
     rw (page_at-put (2 * i) left m number, page_at-put (2 * i + 1) right m number) (option_or-map (λ _. m number) (page_at (2 * i) left number) (page_at (2 * i + 1) right number))
@@ -165,12 +165,12 @@ page_at-put i (leaf page) m number =
       | inr n ↦ if-other number i (Some (m i)) None n.1 ∙ sym (ap (option_map (λ _. m number)) (if-other number i (Some page) None n.1))
     ]
 
-pub put-put : (i : ℕ) (t : Part) (m m' : Pages) → put i (put i t m) m' ≡ put i t m'
+pub put-put : (i : ℕ) (t : Part) (m m' : Pages) → put_part i (put_part i t m) m' ≡ put_part i t m'
 put-put i (pruned digest) m m' = refl
 put-put i (branch left right) m m' = rw (put-put (2 * i) left m m', put-put (2 * i + 1) right m m') refl
 put-put i (leaf page) m m' = refl
 
-pub put-fill : (t : Part) → IsPart 18 t → put 0 t (fill t) ≡ t
+pub put-fill : (t : Part) → IsPart 18 t → put_part 0 t (fill t) ≡ t
 put-fill t shape = put-same 18 0 t (fill t) shape (λ number b. refl)
 
 -- what is kept where a page is open, and zeros elsewhere
@@ -183,7 +183,7 @@ filled_open None b s = cc
 filled_open (Some x) b s = refl
 
 pub fill-put : (t : Part) (number : ℕ) (bytes : List ℕ) → IsSome (page_at 0 t number) → (page : ℕ)
-    → fill (put 0 t (with_page (fill t) number bytes)) page ≡ with_page (fill t) number bytes page
+    → fill (put_part 0 t (with_page (fill t) number bytes)) page ≡ with_page (fill t) number bytes page
 fill-put t number bytes is_open page =
     ap (λ (o : Option (List ℕ)). unwrap_or o zero_page) (page_at-put 0 t (with_page (fill t) number bytes) page)
     ∙ elim (eqb_tells page number) [

@@ -6,9 +6,9 @@ use Rattle.std.proofs.lemmas.Option.{cond_some}
 use Rattle.std.proofs.lemmas.Bool.Decides.{nat_tests}
 use Rattle.std.proofs.lemmas.List.Elements.{Contains-append_left, Contains-append_right}
 use Rattle.page_core.specs.Pages.{zero_page}
-use Rattle.part_tree.specs.Part.{Part, pruned, branch, leaf, page_at, opened, fill, put, Agree}
+use Rattle.part_tree.specs.Part.{Part, pruned, branch, leaf, page_at, open_numbers, fill, put_part, Agree}
 use Rattle.part_tree.proofs.Pages.{opened_open}
-use Rattle.page_core.specs.Memory.{Agree as AgreeBytes}
+use Rattle.page_core.specs.Memory.{AgreeOn}
 use Rattle.page_core.proofs.Bytes.{flat-page_of}
 use Rattle.page_core.specs.Memories.{page_of, flat}
 
@@ -38,7 +38,7 @@ filled : (m : ℕ → ℕ) (a : ℕ) (o : Option (List ℕ)) → IsSome o → ((
 filled m a (Some page) some same = ap (λ (q : List ℕ). get_or q (a % 1024) 0) (same page refl) ∙ flat-page_of m a
 filled m a None some same = absurd (cc)
 
-pub tree_shows : (H : List ℕ → List ℕ) (m : ℕ → ℕ) (t : Part) → Agree H (page_of m) 18 0 t → AgreeBytes (opened 0 t) (flat (fill t)) m
+pub tree_shows : (H : List ℕ → List ℕ) (m : ℕ → ℕ) (t : Part) → Agree H (page_of m) 18 0 t → AgreeOn (open_numbers 0 t) (flat (fill t)) m
 tree_shows H m t agree = record {
   at = λ a c.
       filled m a (page_at 0 t (a / 1024)) (opened_open 0 t (a / 1024) c)
@@ -46,10 +46,10 @@ tree_shows H m t agree = record {
 }
 
 -- a put depends on the open pages alone
-pub put_same : (i : ℕ) (t : Part) (m n : ℕ → List ℕ) → ((p : ℕ) → Contains (opened i t) p → m p ≡ n p) → put i t m ≡ put i t n
+pub put_same : (i : ℕ) (t : Part) (m n : ℕ → List ℕ) → ((p : ℕ) → Contains (open_numbers i t) p → m p ≡ n p) → put_part i t m ≡ put_part i t n
 put_same i (pruned digest) m n same = refl
 put_same i (branch left right) m n same =
     ap₂ branch
-    (put_same (2 * i) left m n (λ p c. same p (Contains-append_left (opened (2 * i) left) (opened (2 * i + 1) right) p c)))
-    (put_same (2 * i + 1) right m n (λ p c. same p (Contains-append_right (opened (2 * i) left) (opened (2 * i + 1) right) p c)))
+    (put_same (2 * i) left m n (λ p c. same p (Contains-append_left (open_numbers (2 * i) left) (open_numbers (2 * i + 1) right) p c)))
+    (put_same (2 * i + 1) right m n (λ p c. same p (Contains-append_right (open_numbers (2 * i) left) (open_numbers (2 * i + 1) right) p c)))
 put_same i (leaf page) m n same = ap leaf (same i (0, omega arith, refl))

@@ -1,6 +1,7 @@
 -- The canonical form of a part tree: the one form in which a receipt may show these pages.
 use Rattle.std.specs.Prelude.{ℕ, ◌+◌, ◌<◌, ◌≤◌}
 use Rattle.part_tree.specs.Part.{Part, pruned, branch, leaf, IsPart}
+use Rattle.part_tree.specs.declared.sizes.TheConstants.{HEIGHT, MOST_PAGES}
 
 -- how many pages are open
 abbrev pub page_count : Part → ℕ
@@ -21,7 +22,7 @@ IsBranch (leaf page) = ⊥
 
 -- the whole tree has height 18, its root is a branch, every branch has a page below it, and at most 4,096 pages are open
 pub record IsCanonical (t : Part) : Type 0 where
-  pub shape : IsPart 18 t
+  pub shape : IsPart HEIGHT t
   pub root : IsBranch t
   pub branches : BranchesOpen t
-  pub few : page_count t ≤ 4096
+  pub few : page_count t ≤ MOST_PAGES

@@ -31,10 +31,10 @@ part_strings H (branch left right) = (root_of H left ++ root_of H right) ∷ (pa
 part_strings H (leaf page) = page ∷ []
 
 -- the numbers of the open pages, under node i
-abbrev pub opened : ℕ → Part → List ℕ
-opened i (pruned digest) = []
-opened i (branch left right) = opened (2 * i) left ++ opened (2 * i + 1) right
-opened i (leaf page) = i ∷ []
+abbrev pub open_numbers : ℕ → Part → List ℕ
+open_numbers i (pruned digest) = []
+open_numbers i (branch left right) = open_numbers (2 * i) left ++ open_numbers (2 * i + 1) right
+open_numbers i (leaf page) = i ∷ []
 
 -- the bytes of a page, if it is open under node i
 abbrev pub page_at : ℕ → Part → ℕ → Option (List ℕ)
@@ -51,10 +51,10 @@ abbrev pub HasPages : ℕ → ℕ → Part → Pages → Type 0
 HasPages h i t m = (number : ℕ) → IsBelow h i number → m number ≡ unwrap_or (page_at i t number) zero_page
 
 -- the tree with the memory's bytes in each open page
-abbrev pub put : ℕ → Part → Pages → Part
-put i (pruned digest) m = pruned digest
-put i (branch left right) m = branch (put (2 * i) left m) (put (2 * i + 1) right m)
-put i (leaf page) m = leaf (m i)
+abbrev pub put_part : ℕ → Part → Pages → Part
+put_part i (pruned digest) m = pruned digest
+put_part i (branch left right) m = branch (put_part (2 * i) left m) (put_part (2 * i + 1) right m)
+put_part i (leaf page) m = leaf (m i)
 
 -- at node i of height h, each open page is the memory's and each pruned digest is that of the memory's node
 abbrev pub Agree : (List ℕ → List ℕ) → Pages → ℕ → ℕ → Part → Type 0

@@ -2,6 +2,7 @@
 use Rattle.std.specs.Prelude.{◌≡◌, ℕ, zero, suc, ◌+◌, ◌*◌, ◌/◌, ◌^◌, List, [], ◌∷◌, ◌++◌}
 use Rattle.std.proofs.Common.{refl}
 use Rattle.page_core.specs.Pages.{Pages}
+use Rattle.part_tree.specs.declared.sizes.TheConstants.{HEIGHT}
 
 -- what is hashed at a node: the page's bytes, or the two digests below it
 unfoldable pub node_string : (List ℕ → List ℕ) → Pages → ℕ → ℕ → List ℕ
@@ -23,7 +24,7 @@ node-suc H m h i = refl
 
 -- the digest of the whole memory
 abbrev pub root : (List ℕ → List ℕ) → Pages → List ℕ
-root H m = node H m 18 0
+root H m = node H m HEIGHT 0
 
 -- what is hashed at a node and below it
 unfoldable pub tree_strings : (List ℕ → List ℕ) → Pages → ℕ → ℕ → List (List ℕ)

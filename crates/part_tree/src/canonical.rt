@@ -2,11 +2,10 @@ ghost use Rattle.std.specs.Prelude.{◌≡◌, ◌^◌, ◌≤◌, ◌↔◌, Is
 ghost use Rattle.part_tree.specs.Part.{IsPart};
 ghost use Rattle.part_tree.specs.Canonical.{page_count, BranchesOpen, IsCanonical};
 ghost use Rattle.part_tree.specs.Views.{part};
+ghost use Rattle.part_tree.specs.declared.sizes.TheConstants.{HEIGHT};
 
+use crate::sizes::{HEIGHT, MOST_PAGES};
 use crate::tree::PartTree;
-
-// The most pages that a canonical tree opens.
-const MOST_PAGES: u32 = 4096;
 
 impl PartTree {
     /// Whether the whole tree has its canonical form: the root is a branch, branches stand at heights
@@ -16,7 +15,7 @@ impl PartTree {
         ensures { IsTrue result ↔ IsCanonical (part self.now) }
     {
         match self {
-            PartTree::Branch(_, _) => match self.pages_below(18) {
+            PartTree::Branch(_, _) => match self.pages_below(HEIGHT) {
                 Some(pages) => pages <= MOST_PAGES,
                 None => false,
             },
@@ -26,7 +25,7 @@ impl PartTree {
 
     // The number of pages of a node of this height, where it has its form.
     fn pages_below(&self, height: u32) -> Option<u32>
-        requires { height ≤ 18 }
+        requires { height ≤ HEIGHT }
         ensures shape { IfSome result (λ pages. IsPart height (part self.now)) }
         ensures branches { IfSome result (λ pages. BranchesOpen (part self.now)) }
         ensures count { IfSome result (λ pages. pages ≡ page_count (part self.now)) }

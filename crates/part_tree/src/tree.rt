@@ -1,12 +1,14 @@
 ghost use Rattle.std.specs.Prelude.{◌≡◌, ◌-◌, ◌^◌, ◌<◌, ◌≤◌, ◌++◌, IsSome, IfOk, OnOk, option_map};
 ghost use Rattle.page_core.specs.Pages.{Pages, with_page};
-ghost use Rattle.part_tree.specs.Part.{IsPart, HasPages, root_of, page_at, opened, fill, put};
+ghost use Rattle.part_tree.specs.Part.{IsPart, HasPages, root_of, page_at, open_numbers, fill, put_part};
 ghost use Rattle.part_tree.specs.Tree.{IsBelow};
 ghost use Rattle.part_tree.specs.Views.{part};
+ghost use Rattle.part_tree.specs.declared.sizes.TheConstants.{HEIGHT};
 
+use crate::sizes::HEIGHT;
 use byte_cursor::ItemList;
 use digest_core::{Digest, Digester};
-use page_core::Page;
+use page_core::{PAGES, Page};
 use std::alloc::{AllocError, Global};
 
 /// A list of page numbers.
@@ -40,11 +42,11 @@ impl PartTree {
 
     /// The page with this number; None exactly where it isn't open. It takes no memory.
     pub fn page(&self, number: u32) -> Option<&Page>
-        requires { IsPart 18 (part self.now) }
+        requires { IsPart HEIGHT (part self.now) }
         ensures { option_map (λ page. page.now) result ≡ page_at 0 (part self.now) number }
     {
-        if number < 262_144 {
-            self.page_below(18, 0, number)
+        if number < PAGES {
+            self.page_below(HEIGHT, 0, number)
         } else {
             None
         }
@@ -53,7 +55,7 @@ impl PartTree {
     // A page at or below this node, if it is open.
     fn page_below(&self, height: u32, index: u32, number: u32) -> Option<&Page>
         requires shape { IsPart height (part self.now) }
-        requires low { height ≤ 18 }
+        requires low { height ≤ HEIGHT }
         requires below { IsBelow height index number }
         ensures { option_map (λ page. page.now) result ≡ page_at index (part self.now) number }
     {
@@ -73,19 +75,19 @@ impl PartTree {
 
     /// Puts other bytes into an open page. It takes no memory.
     pub fn write(&mut self, number: u32, content: &Page)
-        requires shape { IsPart 18 (part self.old) }
+        requires shape { IsPart HEIGHT (part self.old) }
         requires open { IsSome (page_at 0 (part self.old) number) }
-        ensures { part self.new ≡ put 0 (part self.old) (with_page (fill (part self.old)) number content.now) }
+        ensures { part self.new ≡ put_part 0 (part self.old) (with_page (fill (part self.old)) number content.now) }
     {
-        self.write_below(18, 0, number, content);
+        self.write_below(HEIGHT, 0, number, content);
     }
 
     // Writes a page at or below this node, if it is open.
     fn write_below(&mut self, height: u32, index: u32, number: u32, content: &Page)
         requires shape { IsPart height (part self.old) }
-        requires low { height ≤ 18 }
+        requires low { height ≤ HEIGHT }
         requires below { IsBelow height index number }
-        ensures { (m : Pages) → HasPages height index (part self.old) m → part self.new ≡ put index (part self.old) (with_page m number content.now) }
+        ensures { (m : Pages) → HasPages height index (part self.old) m → part self.new ≡ put_part index (part self.old) (with_page m number content.now) }
     {
         match self {
             PartTree::Pruned(_) => {}
@@ -103,20 +105,20 @@ impl PartTree {
 
     /// The numbers of the open pages, ascending.
     pub fn opened(&self, alloc: Global) -> Result<PageList, AllocError>
-        requires { IsPart 18 (part self.now) }
-        ensures { IfOk result (λ pages. pages.items ≡ opened 0 (part self.now)) }
+        requires { IsPart HEIGHT (part self.now) }
+        ensures { IfOk result (λ pages. pages.items ≡ open_numbers 0 (part self.now)) }
     {
         let mut pages = PageList::new(alloc);
-        self.add_opened(18, 0, &mut pages)?;
+        self.add_opened(HEIGHT, 0, &mut pages)?;
         Ok(pages)
     }
 
     // Adds the numbers of the open pages at or below this node.
     fn add_opened(&self, height: u32, index: u32, pages: &mut PageList) -> Result<(), AllocError>
         requires shape { IsPart height (part self.now) }
-        requires low { height ≤ 18 }
-        requires fits { index < 2 ^ (18 - height) }
-        ensures { OnOk result (pages.new.items ≡ pages.old.items ++ opened index (part self.now)) }
+        requires low { height ≤ HEIGHT }
+        requires fits { index < 2 ^ (HEIGHT - height) }
+        ensures { OnOk result (pages.new.items ≡ pages.old.items ++ open_numbers index (part self.now)) }
     {
         match self {
             PartTree::Pruned(_) => Ok(()),

@@ -5,7 +5,7 @@ use Rattle.std.specs.List.{flat_map}
 use Rattle.std.proofs.lemmas.Grind.{flat_map-append}
 use Rattle.std.proofs.lemmas.List.{length-append, nil_from_length}
 use Rattle.std.proofs.lemmas.List.Elements.{All-append, All-cons, All-nil}
-use Rattle.prove_calls.specs.Guests.{IsInput}
+use Rattle.prove_calls.specs.Guest.{IsInput}
 
 -- these words were taken off the front, and whole words are left
 pub record AreTaken (bytes words left : List ℕ) : Type 0 where

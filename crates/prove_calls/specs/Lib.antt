@@ -1,9 +1,8 @@
-pub mod Words
-pub mod Lines
-pub mod Guests
+pub mod Guest
+pub mod Exec
 pub mod Others
-pub mod Answers
-pub mod Proving
-pub mod Read
-pub mod Ends
-pub mod Views
+pub mod Prove
+pub mod Proofs
+pub mod Generate
+pub mod Generating
+pub mod Top

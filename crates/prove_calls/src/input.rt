@@ -1,5 +1,5 @@
 ghost use Rattle.std.specs.Prelude.{◌≡◌, ◌≢◌, ◌%◌, length, IfOk, IfSome, IfNone};
-ghost use Rattle.prove_calls.specs.Guests.{IsInput};
+ghost use Rattle.prove_calls.specs.Guest.{IsInput};
 
 use byte_cursor::{Cursor, WordList};
 use std::alloc::{AllocError, Global};

@@ -1,16 +1,14 @@
-//! The public calls that run guests and prove their runs: the uncut run of a guest's ELF file on an input file, under a
-//! limit on its cost, and the receipt of such a run.
+//! The public calls that answer the words of `zk_prove`: they run guests uncut, prove their runs, and generate a guest and prove
+//! its run.
 #![tactic(auto)]
 
-mod execute;
-mod gate;
+mod exec;
+mod generate;
 mod guest;
 mod input;
-mod job;
 mod others;
-mod proving;
-mod texts;
+mod proof;
+mod prove;
 mod top;
 
-pub use gate::{Gate, NoGate};
 pub use top::{exec_top, prove_top};

@@ -1,93 +1,74 @@
 //! The other receipts of a proof, from their files.
-ghost use Rattle.std.specs.Prelude.{◌≡◌, ◌≤◌, ◌⊎◌, map, string_bytes, IfOk, IfErr};
+ghost use Rattle.std.specs.Prelude.{◌≡◌, ◌≢◌, ◌≤◌, IfOk, IfErr, Err};
 ghost use Rattle.outside.specs.Faults.{Rose};
-ghost use Rattle.receipt_types.specs.Spelling.{Spells};
-ghost use Rattle.check_core.specs.Checked.{IsAccepted};
-ghost use Rattle.cli_text.specs.Refusals.{bad_receipt_lines};
-ghost use Rattle.prove_calls.specs.Others.{RefusesItself};
-ghost use Rattle.prove_calls.specs.Read.{IsOfOther, AreOthers};
+ghost use Rattle.resolve.specs.Resolving.{bundles_of};
+ghost use Rattle.command_frame.specs.Ends.{HasCause, IsEnded};
+ghost use Rattle.prove_calls.specs.Others.{HasOther, HasOthers, NotOther, HasBadOther, TellsBadReceipt};
 
-use crate::guest::read_file;
 use byte_cursor::ItemList;
 use check_core::{CheckStop, Checked};
-use cli_text::{Printed, Status, bad_receipt_text, or_memory};
+use cli_text::{Name, Status, bad_receipt_text};
+use command_frame::{Answer, End, MOST_RECEIPT_BYTES, ended, read_file};
 use digest_core::Digester;
 use outside::Desk;
-use receipt_codec::read_bundle;
 use std::alloc::Global;
 
-// The most bytes of a receipt.
-const MOST_BYTES: u64 = 1_073_741_824;
-
-// The receipts of these names, each checked under the digest of its own first state; or the answer where one isn't there, is
-// too long or isn't accepted, or the status of an end that prints nothing.
+// The receipts of these names, each checked under the digest of its own first state.
 pub(crate) fn read_others<D: Digester, K: Desk>(
     alloc: Global,
     desk: &mut K,
-    names: &[String],
-) -> Result<Result<ItemList<Checked<D>>, Printed>, Status>
-    ensures others { IfOk result (λ read. AreOthers D.digest_of (map string_bytes names.now) (K.contents desk.old) read) }
-    ensures silent { IfErr result (λ status. (status ≡ Status.Memory) ⊎ ((status ≡ Status.ReadFault) × Rose (K.read_faults desk.old) (K.read_faults desk.new))) }
-    ensures files { K.contents desk.new ≡ K.contents desk.old }
-    ensures writes { K.write_faults desk.new ≡ K.write_faults desk.old }
+    names: &[Name],
+) -> Result<ItemList<Checked<D>>, End>
+    ensures others { IfOk result (λ others.
+        HasOthers D.digest_of (K.contents desk.old) names.now (bundles_of others.items)) }
+    ensures bad { IfErr result
+        (HasCause (HasBadOther D.digest_of (K.contents desk.old) names.now)) }
+    ensures fault { result ≡ Err End.ReadFault →
+        Rose (K.read_faults desk.old) (K.read_faults desk.new) }
+    ensures contents { K.contents desk.new ≡ K.contents desk.old }
+    ensures write_faults { K.write_faults desk.new ≡ K.write_faults desk.old }
 {
     let mut others = ItemList::new(alloc);
     for name in names {
-        match read_other::<D, K>(alloc, desk, others.len(), name.as_str())? {
-            Ok(other) => {
-                if others.push(other).is_err() {
-                    return Err(Status::Memory);
-                }
-            }
-            Err(printed) => return Ok(Err(printed)),
-        }
+        let other = read_other::<D, K>(alloc, desk, others.len(), name.as_str())?;
+        others.push(other)?;
     }
-    Ok(Ok(others))
+    Ok(others)
 }
 
-// The receipt of this place and name, checked; or the answer where it isn't accepted, or the status of an end that prints
-// nothing.
+// The receipt of this place and name, checked under the digest of its own first state.
 fn read_other<D: Digester, K: Desk>(
     alloc: Global,
     desk: &mut K,
     place: usize,
     name: &str,
-) -> Result<Result<Checked<D>, Printed>, Status>
-    ensures other { IfOk result (λ read. IsOfOther D.digest_of place name.now (K.contents desk.old) read) }
-    ensures silent { IfErr result (λ status. (status ≡ Status.Memory) ⊎ ((status ≡ Status.ReadFault) × Rose (K.read_faults desk.old) (K.read_faults desk.new))) }
-    ensures files { K.contents desk.new ≡ K.contents desk.old }
-    ensures reads { K.read_faults desk.old ≤ K.read_faults desk.new }
-    ensures writes { K.write_faults desk.new ≡ K.write_faults desk.old }
+) -> Result<Checked<D>, End>
+    ensures other { IfOk result (λ other.
+        HasOther D.digest_of (K.contents desk.old) name.now other.bundle) }
+    ensures bad { IfErr result
+        (HasCause (NotOther D.digest_of (K.contents desk.old) place name.now)) }
+    ensures fault { result ≡ Err End.ReadFault →
+        Rose (K.read_faults desk.old) (K.read_faults desk.new) }
+    ensures contents { K.contents desk.new ≡ K.contents desk.old }
+    ensures read_faults { K.read_faults desk.old ≤ K.read_faults desk.new }
+    ensures write_faults { K.write_faults desk.new ≡ K.write_faults desk.old }
 {
-    let bytes = match read_file(alloc, desk, name, MOST_BYTES)? {
-        Ok(bytes) => bytes,
-        Err(printed) => return Ok(Err(printed)),
-    };
-    match check_bytes::<D>(alloc, bytes.as_slice()) {
-        Ok(other) => Ok(Ok(other)),
-        Err(CheckStop::Memory) => Err(Status::Memory),
-        Err(stop) => Ok(Err(bad_receipt(alloc, place, stop)?)),
+    let bytes = read_file(alloc, desk, name, MOST_RECEIPT_BYTES)?;
+    match Checked::read(alloc, bytes.as_slice()) {
+        Ok(other) => Ok(other),
+        Err(CheckStop::Memory) => Err(End::Memory),
+        Err(stop) => Err(ended(bad_receipt(alloc, place, &stop))),
     }
 }
 
-// The bundle that bytes spell, checked under the digest of its own first state.
-fn check_bytes<D: Digester>(alloc: Global, bytes: &[u8]) -> Result<Checked<D>, CheckStop>
-    ensures spells { IfOk result (λ other. Spells other.bundle bytes.now) }
-    ensures accepted { IfOk result (λ other. IsAccepted D.digest_of other.bundle) }
-    ensures stop { IfErr result (λ stop. RefusesItself D.digest_of bytes.now stop) }
-{
-    let bundle = read_bundle(alloc, bytes)?;
-    Checked::new(alloc, bundle)
-}
-
 // The answer to the receipt of a place that is refused.
-fn bad_receipt(alloc: Global, place: usize, stop: CheckStop) -> Result<Printed, Status>
-    ensures refused { IfOk result (λ printed. printed.status ≡ Status.Refused) }
-    ensures line { IfOk result (λ printed. string_bytes printed.text ≡ bad_receipt_lines place stop) }
-    ensures silent { IfErr result (λ status. status ≡ Status.Memory) }
+fn bad_receipt(alloc: Global, place: usize, stop: &CheckStop) -> Result<Answer, End>
+    ensures tells { IsEnded (TellsBadReceipt place stop.now) result }
+    ensures no_fault { result ≢ Err End.ReadFault }
 {
     let Ok(place) = u32::try_from(place) else {
-        return Err(Status::Memory);
+        return Err(End::Memory);
     };
-    or_memory(Printed::new(Status::Refused, bad_receipt_text(alloc, place, &stop)))
+    let lines = bad_receipt_text(alloc, place, stop)?;
+    Ok(Answer::new(Status::Refused, lines))
 }

@@ -1,33 +1,28 @@
-ghost use Rattle.std.specs.Prelude.{◌≡◌, ℕ, ◌+◌, ◌≤◌, ◌⊎◌, List, Option, map, string_bytes, IfOk, IfErr, OnOk, OnErr};
+//! The words of `zk_prove`, a row a command.
+ghost use Rattle.std.specs.Prelude.{◌≡◌, ◌≢◌, ◌+◌, ◌≤◌, ◌⊎◌, ℕ, List, map, string_bytes, Err};
 ghost use Rattle.outside.specs.Faults.{Rose};
-ghost use Rattle.cli_text.specs.Ends.{Ends, EndsWriting, IsPrinted, MayFailWrite, written};
-ghost use Rattle.prove_calls.specs.Views.{job as seen, proof as seen_proof, kept};
-ghost use Rattle.prove_calls.specs.Answers.{Answers, AnswersJob};
-ghost use Rattle.elf_image.specs.Loaded.{image_of};
-ghost use Rattle.resolve.specs.Resolving.{bundles_of};
-ghost use Rattle.prove_calls.specs.Proving.{AnswersAll, AnswersProof, IsSession, IsKept};
-ghost use Rattle.prove_calls.specs.Ends.{OnFiles, IsHaltedPut, IsProvedPut};
+ghost use Rattle.rv_step.specs.Limits.{IsCycleLimit, IsPageLimit, IsLimit};
+ghost use Rattle.cli_text.specs.ProveWords.{NamesProve};
+ghost use Rattle.command_frame.specs.Ends.{Ends, HasCause, IsDoneOrFails, IsEnded, MayWrite};
+ghost use Rattle.prove_calls.specs.Top.{ProveTable, ExecTable, AnswersExecAlone, ProveJobTable, CompletesProve, CompletesExecWords, IsDoneProve, IsDoneExec, IsExec, IsProveUsage, NamesRun, NamesSomeProve, ProveReads};
 
-use crate::execute::execute;
-use crate::gate::Gate;
-use crate::guest::{Guest, read_guest};
-use crate::job::{Job, Proof, parse, parse_proof};
-use crate::others::read_others;
-use crate::proving::{Answer, prove_guest};
-use crate::texts::usage;
-use check_core::Checked;
-use cli_text::{Printed, Status, or_memory};
+use crate::exec::exec;
+use crate::generate::generate;
+use crate::prove::prove;
+use cli_text::{ProveJob, Status, parse_prove, prove_usage};
+use command_frame::{Answer, End, ended, put_end};
 use digest_core::Digester;
-use outside::{Desk, Failed, Sink};
+use executor::{DEFAULT_CYCLES, DEFAULT_LIMIT, DEFAULT_PAGES, Limits};
+use outside::{Desk, Sink};
+use rv_step::LIMIT_MAX;
+use session::Gate;
 use std::alloc::{AllocError, Global};
 use std::sync::Wait;
 use std::thread::Threads;
 
-/// Answers the words `prove`, the names of an ELF file, an input file and a receipt, the most that a segment costs, the most
-/// pages that it touches, a limit and the number of workers, which is 0, and then the names of other receipts: runs the guest
-/// on the input's words under the limit on its cost, writes the receipt of its run, whose assumption calls are linked to
-/// entries of the other receipts, and prints its report in one put. Answers other words as `exec_top` does. No file is
-/// written where it refuses.
+/// Answers the words of `zk_prove`, and puts the answer in one put. With `prove` the receipt's file is written where the run
+/// is proved and the receipt isn't too long; no other file changes. There are no worker threads: words with another number
+/// of them than 0 are answered by the usage line.
 pub fn prove_top<D: Digester, K: Desk, O: Sink, G: Gate, R: Threads + Wait + Sync>(
     _rt: &R,
     alloc: Global,
@@ -36,166 +31,187 @@ pub fn prove_top<D: Digester, K: Desk, O: Sink, G: Gate, R: Threads + Wait + Syn
     out: &mut O,
     _gate: &G,
 ) -> Status
-    // With status 0 the words are those of `exec`, and the uncut run of the image and the input that the files hold, where told, halts within the
-    // limit and has its lines appended to the sink; or they are those of `prove`, and the receipt's name holds exactly the bytes that spell the
-    // bundle of that run's segments and of the other receipts, the chain of whose entry 0 is the run's claim, and which is accepted under the
-    // image's id; and the lines of its report are appended.
-    ensures done { result ≡ Status.Done → OnFiles (K.contents desk.old) (λ files.
-        IsHaltedPut (map string_bytes words.now) files (O.taken out.old) (O.taken out.new)
-        ⊎ IsProvedPut D.digest_of (map string_bytes words.now) files (K.contents desk.new) (O.taken out.old) (O.taken out.new)) }
+    // What a status of 0 tells, by the command. Of a proof it has the receipt's bytes.
+    ensures done { result ≡ Status.Done → IsDoneProve D.digest_of (map string_bytes words.now)
+        (K.contents desk.old) (K.contents desk.new) (O.taken out.old) (O.taken out.new) }
+    // Where nothing stands against it, the status is 0, or there was a fault or want of memory.
+    ensures complete { CompletesProve D.digest_of (map string_bytes words.now) (K.contents desk.old) →
+        IsDoneOrFails result }
 
-    // The status, the lines and what is written are those of an answer, but for a fault and want of memory.
-    ensures answer { EndsWriting (AnswersAll D.digest_of (map string_bytes words.now) (K.contents desk.old)) result (K.contents desk.old) (K.contents desk.new) (O.taken out.old) (O.taken out.new) }
-    ensures read_fault { result ≡ Status.ReadFault → Rose (K.read_faults desk.old) (K.read_faults desk.new) }
-    ensures write_fault { result ≡ Status.WriteFault → Rose (K.write_faults desk.old) (K.write_faults desk.new) ⊎ Rose (O.faults out.old) (O.faults out.new) }
+    // The status, the lines and the file are those of an answer, but for a fault and want of memory.
+    ensures answer { Ends (ProveTable D.digest_of (map string_bytes words.now) (K.contents desk.old))
+        result (K.contents desk.old) (K.contents desk.new) (O.taken out.old) (O.taken out.new) }
+    ensures read_fault { result ≡ Status.ReadFault → NamesSomeProve (map string_bytes words.now)
+        × Rose (K.read_faults desk.old) (K.read_faults desk.new) }
+    ensures write_fault { result ≡ Status.WriteFault →
+        (MayWrite (ProveTable D.digest_of (map string_bytes words.now) (K.contents desk.old))
+        × Rose (K.write_faults desk.old) (K.write_faults desk.new))
+        ⊎ Rose (O.faults out.old) (O.faults out.new) }
 
     ensures one_put { O.calls out.new ≤ O.calls out.old + 1 }
 {
-    match parse_proof(alloc, words) {
-        Ok(Some(proof)) => prove::<D, K, O>(alloc, &proof, desk, out),
-        Ok(None) => exec_top(alloc, words, desk, out),
-        Err(AllocError) => Status::Memory,
+    let end = answer::<D, K>(alloc, words, desk);
+    put_end(desk, out, end)
+}
+
+// How the command of the words ends.
+fn answer<D: Digester, K: Desk>(alloc: Global, words: &[String], desk: &mut K) -> End
+    ensures answer { HasCause
+        (ProveTable D.digest_of (map string_bytes words.now) (K.contents desk.old)) result }
+    ensures fault { result ≡ End.ReadFault → NamesSomeProve (map string_bytes words.now)
+        × Rose (K.read_faults desk.old) (K.read_faults desk.new) }
+    ensures contents { K.contents desk.new ≡ K.contents desk.old }
+    ensures write_faults { K.write_faults desk.new ≡ K.write_faults desk.old }
+{
+    match parse_prove(alloc, words) {
+        Ok(Some(job)) => ended(answer_job::<D, K>(alloc, desk, job)),
+        Ok(None) => ended(usage(alloc)),
+        Err(AllocError) => End::Memory,
     }
 }
 
-// Answers a proof.
-fn prove<D: Digester, K: Desk, O: Sink>(
+// How the command of a job ends.
+fn answer_job<D: Digester, K: Desk>(
     alloc: Global,
-    proof: &Proof,
     desk: &mut K,
-    out: &mut O,
-) -> Status
-    ensures answer { EndsWriting (AnswersProof D.digest_of (seen_proof proof.now) (K.contents desk.old)) result (K.contents desk.old) (K.contents desk.new) (O.taken out.old) (O.taken out.new) }
-    ensures read_fault { result ≡ Status.ReadFault → Rose (K.read_faults desk.old) (K.read_faults desk.new) }
-    ensures write_fault { result ≡ Status.WriteFault → Rose (K.write_faults desk.old) (K.write_faults desk.new) ⊎ Rose (O.faults out.old) (O.faults out.new) }
-    ensures one_put { O.calls out.new ≤ O.calls out.old + 1 }
+    job: ProveJob,
+) -> Result<Answer, End>
+    requires named { (words : List (List ℕ)) × NamesProve words job }
+    ensures answer { IsEnded (ProveJobTable D.digest_of job (K.contents desk.old)) result }
+    ensures fault { result ≡ Err End.ReadFault → ProveReads job
+        × Rose (K.read_faults desk.old) (K.read_faults desk.new) }
+    ensures contents { K.contents desk.new ≡ K.contents desk.old }
+    ensures write_faults { K.write_faults desk.new ≡ K.write_faults desk.old }
 {
-    match answer_proof::<D, K>(alloc, proof, desk) {
-        Err(silent) => silent,
-        Ok(answer) => {
-            if write_receipt(desk, proof.receipt, &answer).is_err() {
-                return Status::WriteFault;
+    match job {
+        ProveJob::ProveDefault {
+            elf,
+            input,
+            receipt,
+        } => {
+            let limits = limits_of(DEFAULT_CYCLES, DEFAULT_PAGES, DEFAULT_LIMIT);
+            prove::<D, K>(alloc, desk, &elf, &input, receipt, limits, &[])
+        }
+        ProveJob::Prove {
+            elf,
+            input,
+            receipt,
+            cycles,
+            pages,
+            limit,
+            workers,
+            others,
+        } => {
+            if workers != 0 {
+                return usage(alloc);
             }
-            match out.put(answer.printed.text.as_bytes()) {
-                Ok(()) => answer.printed.status,
-                Err(_) => Status::WriteFault,
+            let limits = limits_of(cycles, pages, limit);
+            prove::<D, K>(
+                alloc,
+                desk,
+                &elf,
+                &input,
+                receipt,
+                limits,
+                others.as_slice(),
+            )
+        }
+        ProveJob::Exec { elf, input, limit } => exec(alloc, desk, &elf, &input, limit),
+        ProveJob::Generate {
+            number,
+            size,
+            cycles,
+            pages,
+            workers,
+        } => {
+            if workers != 0 {
+                return usage(alloc);
             }
+            generate::<D>(alloc, number, size, limits_of(cycles, pages, LIMIT_MAX))
         }
     }
 }
 
-// Writes the receipt of an answer under this name, if there is one.
-fn write_receipt<K: Desk>(desk: &mut K, name: &str, answer: &Answer) -> Result<(), Failed>
-    ensures done { OnOk result (K.contents desk.new ≡ written (kept name.now answer.now.receipt) (K.contents desk.old)) }
-    ensures failed { OnErr result ((taken : Option (List ℕ)) → MayFailWrite (kept name.now answer.now.receipt) (K.contents desk.old) (K.contents desk.new) taken taken) }
-    ensures fault { OnErr result (Rose (K.write_faults desk.old) (K.write_faults desk.new)) }
+// Limits, each in its range.
+fn limits_of(cycles: u32, pages: u32, limit: u64) -> Limits
+    requires cycles { IsCycleLimit cycles }
+    requires pages { IsPageLimit pages }
+    requires limit { IsLimit limit }
+    ensures { result ≡ record { cycles = cycles; pages = pages; limit = limit } }
 {
-    match &answer.receipt {
-        Some(receipt) => desk.write(name, receipt.as_slice()),
-        None => Ok(()),
+    match Limits::new(cycles, pages, limit) {
+        Some(limits) => limits,
+        None => unreachable!(),
     }
 }
 
-// The answer to a proof, or the status of an end that prints nothing.
-fn answer_proof<D: Digester, K: Desk>(
-    alloc: Global,
-    proof: &Proof,
-    desk: &mut K,
-) -> Result<Answer, Status>
-    ensures answer { IfOk result (λ answer. AnswersProof D.digest_of (seen_proof proof.now) (K.contents desk.old) answer.printed.status (string_bytes answer.printed.text) (kept proof.now.receipt.now answer.receipt)) }
-    ensures printed { IfOk result (λ answer. IsPrinted answer.printed.status) }
-    ensures silent { IfErr result (λ status. (status ≡ Status.Memory) ⊎ ((status ≡ Status.ReadFault) × Rose (K.read_faults desk.old) (K.read_faults desk.new))) }
-    ensures files { K.contents desk.new ≡ K.contents desk.old }
-    ensures writes { K.write_faults desk.new ≡ K.write_faults desk.old }
-{
-    let guest = match read_guest(alloc, desk, proof.elf, proof.input)? {
-        Ok(guest) => guest,
-        Err(printed) => {
-            return Ok(Answer {
-                printed,
-                receipt: None,
-            });
-        }
-    };
-    match read_others::<D, K>(alloc, desk, proof.others)? {
-        Ok(others) => prove_read::<D>(alloc, guest, proof, others.as_slice()),
-        Err(printed) => Ok(Answer {
-            printed,
-            receipt: None,
-        }),
-    }
-}
-
-// The answer to a proof of this guest with these other receipts, or the status of want of memory.
-fn prove_read<D: Digester>(
-    alloc: Global,
-    guest: Guest,
-    proof: &Proof,
-    others: &[Checked<D>],
-) -> Result<Answer, Status>
-    ensures answer { IfOk result (λ answer. IsSession D.digest_of proof.now.limits proof.now.receipt.now (image_of guest.image) guest.words.items (bundles_of others.now) answer.printed.status (string_bytes answer.printed.text) (kept proof.now.receipt.now answer.receipt)
-        × IsKept answer.printed.status (kept proof.now.receipt.now answer.receipt)) }
-    ensures silent { IfErr result (λ status. status ≡ Status.Memory) }
-{
-    let Guest { image, words } = guest;
-    match prove_guest::<D>(alloc, image, words, proof.limits, others, proof.receipt) {
-        Ok(answer) => Ok(answer),
-        Err(_) => Err(Status::Memory),
-    }
-}
-
-/// Answers the words `exec`, an ELF file's name, an input file's name and a limit: runs the guest on the input's words under
-/// this limit on its cost, and prints the outcome in one put. The files are as before.
+/// Answers the words of `exec` as `prove_top` does, and other words by the usage line; it needs no threads. No file changes.
 pub fn exec_top<K: Desk, O: Sink>(
     alloc: Global,
     words: &[String],
     desk: &mut K,
     out: &mut O,
 ) -> Status
-    // With status 0 the uncut run of the image and the input that the files hold, where told, halts within the limit, and the sink has
-    // exactly the lines of its exit code, steps, cost, journal and number of assumptions appended.
-    ensures halted { result ≡ Status.Done → OnFiles (K.contents desk.old) (λ files. IsHaltedPut (map string_bytes words.now) files (O.taken out.old) (O.taken out.new)) }
+    // With a status of 0 the uncut run of the guest in the two files halts within the limit, and exactly its lines are put.
+    ensures done { result ≡ Status.Done → IsDoneExec (map string_bytes words.now)
+        (K.contents desk.old) (K.contents desk.new) (O.taken out.old) (O.taken out.new) }
+    // Where it halts so, the status is 0, or there was a fault or want of memory.
+    ensures complete { CompletesExecWords (map string_bytes words.now) (K.contents desk.old) →
+        IsDoneOrFails result }
 
     // The status and the lines are those of an answer, but for a fault and want of memory.
-    ensures answer { Ends (Answers (map string_bytes words.now) (K.contents desk.old)) result (O.taken out.old) (O.taken out.new) }
-    ensures read_fault { result ≡ Status.ReadFault → Rose (K.read_faults desk.old) (K.read_faults desk.new) }
-    ensures write_fault { result ≡ Status.WriteFault → Rose (O.faults out.old) (O.faults out.new) }
+    ensures answer { Ends (ExecTable (map string_bytes words.now) (K.contents desk.old)) result
+        (K.contents desk.old) (K.contents desk.new) (O.taken out.old) (O.taken out.new) }
+    ensures read_fault { result ≡ Status.ReadFault → NamesRun (map string_bytes words.now)
+        × Rose (K.read_faults desk.old) (K.read_faults desk.new) }
+    ensures write_fault { result ≡ Status.WriteFault →
+        (MayWrite (ExecTable (map string_bytes words.now) (K.contents desk.old))
+        × Rose (K.write_faults desk.old) (K.write_faults desk.new))
+        ⊎ Rose (O.faults out.old) (O.faults out.new) }
 
     ensures one_put { O.calls out.new ≤ O.calls out.old + 1 }
-    ensures files { K.contents desk.new ≡ K.contents desk.old }
 {
-    match answer(alloc, words, desk) {
-        Err(silent) => silent,
-        Ok(printed) => match out.put(printed.text.as_bytes()) {
-            Ok(()) => printed.status,
-            Err(_) => Status::WriteFault,
-        },
+    let end = answer_exec(alloc, words, desk);
+    put_end(desk, out, end)
+}
+
+// How the words of `exec` end.
+fn answer_exec<K: Desk>(alloc: Global, words: &[String], desk: &mut K) -> End
+    ensures answer { HasCause
+        (ExecTable (map string_bytes words.now) (K.contents desk.old)) result }
+    ensures fault { result ≡ End.ReadFault → NamesRun (map string_bytes words.now)
+        × Rose (K.read_faults desk.old) (K.read_faults desk.new) }
+    ensures contents { K.contents desk.new ≡ K.contents desk.old }
+    ensures write_faults { K.write_faults desk.new ≡ K.write_faults desk.old }
+{
+    match parse_prove(alloc, words) {
+        Ok(Some(job)) => ended(exec_job(alloc, desk, job)),
+        Ok(None) => ended(usage(alloc)),
+        Err(AllocError) => End::Memory,
     }
 }
 
-// The answer to the words, or the status of an end that prints nothing.
-fn answer<K: Desk>(alloc: Global, words: &[String], desk: &mut K) -> Result<Printed, Status>
-    ensures answer { IfOk result (λ printed. Answers (map string_bytes words.now) (K.contents desk.old) printed.status (string_bytes printed.text)) }
-    ensures printed { IfOk result (λ printed. IsPrinted printed.status) }
-    ensures silent { IfErr result (λ status. (status ≡ Status.Memory) ⊎ ((status ≡ Status.ReadFault) × Rose (K.read_faults desk.old) (K.read_faults desk.new))) }
-    ensures files { K.contents desk.new ≡ K.contents desk.old }
+// How a job ends where only `exec` is a command.
+fn exec_job<K: Desk>(alloc: Global, desk: &mut K, job: ProveJob) -> Result<Answer, End>
+    ensures answer { IsEnded (AnswersExecAlone job (K.contents desk.old)) result }
+    ensures fault { result ≡ Err End.ReadFault → IsExec job
+        × Rose (K.read_faults desk.old) (K.read_faults desk.new) }
+    ensures contents { K.contents desk.new ≡ K.contents desk.old }
+    ensures write_faults { K.write_faults desk.new ≡ K.write_faults desk.old }
 {
-    match parse(alloc, words) {
-        Ok(Some(job)) => answer_job(alloc, &job, desk),
-        Ok(None) => or_memory(usage(alloc)),
-        Err(AllocError) => Err(Status::Memory),
+    match job {
+        ProveJob::Exec { elf, input, limit } => exec(alloc, desk, &elf, &input, limit),
+        ProveJob::ProveDefault { .. } => usage(alloc),
+        ProveJob::Prove { .. } => usage(alloc),
+        ProveJob::Generate { .. } => usage(alloc),
     }
 }
 
-// The answer to a job.
-fn answer_job<K: Desk>(alloc: Global, job: &Job, desk: &mut K) -> Result<Printed, Status>
-    ensures answer { IfOk result (λ printed. AnswersJob (seen job.now) (K.contents desk.old) printed.status (string_bytes printed.text)) }
-    ensures printed { IfOk result (λ printed. IsPrinted printed.status) }
-    ensures silent { IfErr result (λ status. (status ≡ Status.Memory) ⊎ ((status ≡ Status.ReadFault) × Rose (K.read_faults desk.old) (K.read_faults desk.new))) }
-    ensures files { K.contents desk.new ≡ K.contents desk.old }
+// The answer to words of no command.
+fn usage(alloc: Global) -> Result<Answer, End>
+    ensures usage { IsEnded IsProveUsage result }
+    ensures no_fault { result ≢ Err End.ReadFault }
 {
-    match read_guest(alloc, desk, job.elf, job.input)? {
-        Ok(guest) => or_memory(execute(alloc, guest.image, guest.words, job.limit)),
-        Err(printed) => Ok(printed),
-    }
+    let lines = prove_usage(alloc)?;
+    Ok(Answer::new(Status::Words, lines))
 }

@@ -1,5 +1,5 @@
 //! Reading a bundle.
-ghost use Rattle.std.specs.Prelude.{◌≡◌, ◌++◌, ℕ, map, Err, IfOk};
+ghost use Rattle.std.specs.Prelude.{◌≡◌, ◌≢◌, ◌++◌, ℕ, map, Err, IfOk};
 ghost use Rattle.std.specs.Arc.{arc_value};
 ghost use Rattle.std.specs.Int.{w16, to_le_bytes};
 ghost use Rattle.std.specs.List.{flat_map};
@@ -9,42 +9,39 @@ ghost use Rattle.receipt_types.specs.Spelling.{seal_bytes, entry_bytes, Spells};
 ghost use Rattle.receipt_codec.specs.Reading.{NoneSpelled, AreLinks, AreSealed, BeginsVersion};
 
 use crate::seal::read_seal;
-use crate::stop::{BundleStop, ReadStop};
+use crate::stop::ReadStop;
 use byte_cursor::Cursor;
-use receipt_types::{Bundle, Entry, EntryList, LinkList, SealList};
+use receipt_types::{
+    Bundle, Entry, EntryList, LinkList, MOST_ENTRIES, MOST_LINKS, MOST_SEALS, SealList,
+};
 use std::alloc::Global;
 use std::sync::Arc;
-
-// The most links of an entry, and the most seals.
-const MOST_LINKS: u32 = 16_777_216;
-
-const MOST_SEALS: u32 = 65_535;
 
 /// Reads the bundle that these bytes spell, with nothing after it.
 ///
 /// Version comes exactly where the bytes begin with `SEAL` and another number than 1, and Malformed exactly where they
 /// don't and spell no bundle, unless memory is wanting. Memory is asked for as the bytes come.
-pub fn read_bundle(alloc: Global, bytes: &[u8]) -> Result<Bundle, BundleStop>
+pub fn read_bundle(alloc: Global, bytes: &[u8]) -> Result<Bundle, ReadStop>
     ensures spells { IfOk result (λ bundle. Spells bundle bytes.now) }
-    ensures malformed { result ≡ Err BundleStop.Malformed → (B : plain.Bundle) → Spells B bytes.now → ⊥ }
-    ensures not_version { result ≡ Err BundleStop.Malformed → (v : ℕ) → BeginsVersion v bytes.now → ⊥ }
-    ensures version { (v : ℕ) → result ≡ Err (BundleStop.Version v) → BeginsVersion v bytes.now }
+    ensures malformed { result ≡ Err ReadStop.Malformed → (B : plain.Bundle) → Spells B bytes.now → ⊥ }
+    ensures not_version { result ≡ Err ReadStop.Malformed → (v : ℕ) → BeginsVersion v bytes.now → ⊥ }
+    ensures version { (v : ℕ) → result ≡ Err (ReadStop.Version v) → BeginsVersion v bytes.now }
 {
     let mut cursor = Cursor::new(bytes);
     match cursor.take(4) {
         Some(b"SEAL") => {}
-        _ => return Err(BundleStop::Malformed),
+        _ => return Err(ReadStop::Malformed),
     }
     match cursor.take_u16() {
         Some(1) => {}
-        Some(version) => return Err(BundleStop::Version(version)),
-        None => return Err(BundleStop::Malformed),
+        Some(version) => return Err(ReadStop::Version(version)),
+        None => return Err(ReadStop::Malformed),
     }
     let Some(count) = cursor.take_u16() else {
-        return Err(BundleStop::Malformed);
+        return Err(ReadStop::Malformed);
     };
-    if count == 0 || count > 256 {
-        return Err(BundleStop::Malformed);
+    if count == 0 || u32::from(count) > MOST_ENTRIES {
+        return Err(ReadStop::Malformed);
     }
     let mut entries = EntryList::new(alloc);
     for number in 0..count {
@@ -52,7 +49,7 @@ pub fn read_bundle(alloc: Global, bytes: &[u8]) -> Result<Bundle, BundleStop>
         entries.push(entry)?;
     }
     if cursor.left() != 0 {
-        return Err(BundleStop::Malformed);
+        return Err(ReadStop::Malformed);
     }
     Ok(Bundle { entries })
 }
@@ -67,6 +64,7 @@ fn read_entry(
     ensures limits { IfOk result (λ entry. EntryLimits number count entry) }
     ensures spelled { IfOk result (λ entry. cursor.old ≡ entry_bytes entry ++ cursor.new) }
     ensures malformed { result ≡ Err ReadStop.Malformed → NoneSpelled entry_bytes (EntryLimits number count) cursor.old }
+    ensures no_version { (v : ℕ) → result ≢ Err (ReadStop.Version v) }
 {
     let link_count = cursor.take_u32().ok_or(ReadStop::Malformed)?;
     let seal_count = cursor.take_u32().ok_or(ReadStop::Malformed)?;
@@ -89,6 +87,7 @@ fn read_links(
     ensures links { IfOk result (λ links. AreLinks number count many links.items) }
     ensures spelled { IfOk result (λ links. cursor.old ≡ flat_map (to_le_bytes w16) links.items ++ cursor.new) }
     ensures malformed { result ≡ Err ReadStop.Malformed → NoneSpelled (flat_map (to_le_bytes w16)) (AreLinks number count many) cursor.old }
+    ensures no_version { (v : ℕ) → result ≢ Err (ReadStop.Version v) }
 {
     let mut links = LinkList::new(alloc);
     for _ in 0..many {
@@ -106,6 +105,7 @@ fn read_seals(alloc: Global, cursor: &mut Cursor, many: u32) -> Result<SealList,
     ensures seals { IfOk result (λ seals. AreSealed many (map (λ seal. arc_value seal) seals.items)) }
     ensures spelled { IfOk result (λ seals. cursor.old ≡ flat_map seal_bytes (map (λ seal. arc_value seal) seals.items) ++ cursor.new) }
     ensures malformed { result ≡ Err ReadStop.Malformed → NoneSpelled (flat_map seal_bytes) (AreSealed many) cursor.old }
+    ensures no_version { (v : ℕ) → result ≢ Err (ReadStop.Version v) }
 {
     let mut seals = SealList::new(alloc);
     for _ in 0..many {

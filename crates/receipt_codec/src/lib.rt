@@ -12,6 +12,6 @@ mod writer;
 pub use bundle::read_bundle;
 pub use laws::spelling_laws;
 pub use seal::read_seal;
-pub use stop::{BundleStop, ReadStop};
+pub use stop::ReadStop;
 pub use tree::read_tree;
 pub use writer::{write_bundle, write_seal, write_tree};

@@ -1,5 +1,5 @@
 //! Reading a seal.
-ghost use Rattle.std.specs.Prelude.{◌≡◌, ◌++◌, ◌↔◌, IsTrue, IfOk, IfSome, IfNone, OnErr};
+ghost use Rattle.std.specs.Prelude.{◌≡◌, ◌≢◌, ◌++◌, ◌↔◌, ℕ, IsTrue, Err, IfOk, IfSome, IfNone, OnErr};
 ghost use Rattle.std.specs.Int.{w32, to_le_bytes};
 ghost use Rattle.std.specs.List.{flat_map};
 ghost use Rattle.receipt_types.specs.Limits.{SealLimits};
@@ -10,11 +10,8 @@ ghost use Rattle.receipt_codec.specs.Fields.{fields_bytes, FieldLimits, AreWords
 use crate::stop::ReadStop;
 use crate::tree::{bytes_left, read_tree};
 use byte_cursor::{Cursor, WordList};
-use receipt_types::Seal;
+use receipt_types::{MOST_STEPS, MOST_WORDS, Seal};
 use std::alloc::Global;
-
-// The most steps of a seal, and the most words.
-const MOST: u32 = 16_777_216;
 
 // The numbers at the front of a seal: its pc, its steps, and the number of its words.
 #[derive(Clone, Copy)]
@@ -29,7 +26,7 @@ impl Fields {
     fn keep_limits(self) -> bool
         ensures { IsTrue result ↔ FieldLimits self }
     {
-        self.pc % 4 == 0 && self.steps != 0 && self.steps <= MOST && self.count <= MOST
+        self.pc % 4 == 0 && self.steps != 0 && self.steps <= MOST_STEPS && self.count <= MOST_WORDS
     }
 }
 
@@ -37,13 +34,14 @@ impl Fields {
 /// after it. Its pc is a multiple of 4, it has 1 to 16,777,216 steps and at most 16,777,216 words,
 /// and its tree is canonical.
 ///
-/// Malformed comes exactly where no prefix spells such a seal, unless memory is wanting. A number
+/// Malformed comes exactly where no prefix spells such a seal, unless memory is wanting; Version never comes. A number
 /// of words past the limit is refused before any word is read, and memory is asked for as the words
 /// come. After an error the cursor stands where it stood.
 pub fn read_seal(alloc: Global, cursor: &mut Cursor) -> Result<Seal, ReadStop>
     ensures limits { IfOk result (λ seal. SealLimits seal) }
     ensures spelled { IfOk result (λ seal. cursor.old ≡ seal_bytes seal ++ cursor.new) }
     ensures malformed { result ≡ Err ReadStop.Malformed → NoneSpelled seal_bytes SealLimits cursor.old }
+    ensures no_version { (v : ℕ) → result ≢ Err (ReadStop.Version v) }
     ensures kept { OnErr result (cursor.new ≡ cursor.old) }
 {
     let mut ahead = Cursor::new(bytes_left(cursor));
@@ -84,6 +82,7 @@ fn read_words(alloc: Global, cursor: &mut Cursor, count: u32) -> Result<WordList
     ensures words { IfOk result (λ words. AreWords count words.items) }
     ensures spelled { IfOk result (λ words. cursor.old ≡ flat_map (to_le_bytes w32) words.items ++ cursor.new) }
     ensures malformed { result ≡ Err ReadStop.Malformed → NoneSpelled (flat_map (to_le_bytes w32)) (AreWords count) cursor.old }
+    ensures no_version { (v : ℕ) → result ≢ Err (ReadStop.Version v) }
 {
     let mut words = WordList::new(alloc);
     for _ in 0..count {

@@ -1,5 +1,5 @@
 //! Reading a part tree.
-ghost use Rattle.std.specs.Prelude.{◌≡◌, ◌<◌, ◌++◌, length, IfOk, IfSome, IfNone, OnErr};
+ghost use Rattle.std.specs.Prelude.{◌≡◌, ◌≢◌, ◌<◌, ◌++◌, ℕ, length, Err, IfOk, IfSome, IfNone, OnErr};
 ghost use Rattle.digest_core.specs.Digests.{IsDigest};
 ghost use Rattle.page_core.specs.Pages.{IsPage};
 ghost use Rattle.part_tree.specs.Part as plain;
@@ -13,21 +13,19 @@ use crate::stop::ReadStop;
 use byte_cursor::Cursor;
 use digest_core::Digest;
 use page_core::Page;
-use part_tree::PartTree;
+use part_tree::{HEIGHT, PartTree};
 use std::alloc::{AllocError, Global};
-
-// The height of a whole tree.
-const HEIGHT: u32 = 18;
 
 /// Reads a tree: the one that a prefix of the bytes left spells; the cursor then stands directly
 /// after it. The tree is canonical: of height 18, with at most 4,096 pages of 1,024 bytes open.
 ///
-/// Malformed comes exactly where no prefix spells a canonical tree, unless memory is wanting.
+/// Malformed comes exactly where no prefix spells a canonical tree, unless memory is wanting; Version never comes.
 /// After an error the cursor stands where it stood.
 pub fn read_tree(alloc: Global, cursor: &mut Cursor) -> Result<PartTree, ReadStop>
     ensures tree { IfOk result (λ tree. IsCanonical (part tree)) }
     ensures spelled { IfOk result (λ tree. cursor.old ≡ tree_bytes (part tree) ++ cursor.new) }
     ensures malformed { result ≡ Err ReadStop.Malformed → NoneSpelled tree_bytes IsCanonical cursor.old }
+    ensures no_version { (v : ℕ) → result ≢ Err (ReadStop.Version v) }
     ensures kept { OnErr result (cursor.new ≡ cursor.old) }
 {
     let mut ahead = Cursor::new(bytes_left(cursor));
@@ -57,6 +55,7 @@ fn read_node(alloc: Global, cursor: &mut Cursor, height: u32) -> Result<PartTree
     ensures shape { IfOk result (λ tree. IsPart height (part tree)) }
     ensures spelled { IfOk result (λ tree. cursor.old ≡ tree_bytes (part tree) ++ cursor.new) }
     ensures malformed { result ≡ Err ReadStop.Malformed → NoneSpelled tree_bytes (IsPart height) cursor.old }
+    ensures no_version { (v : ℕ) → result ≢ Err (ReadStop.Version v) }
 {
     match cursor.take_u8() {
         Some(0) => {

@@ -5,6 +5,7 @@ ghost use Rattle.part_tree.specs.Views.{part};
 ghost use Rattle.receipt_types.specs.Limits.{SealLimits, AllSealLimits, KeepsLimits};
 ghost use Rattle.receipt_types.specs.Spelling.{tree_bytes, seal_bytes, entry_bytes, Spells};
 ghost use Rattle.receipt_codec.specs.Reading.{AppendsFrontOf};
+ghost use Rattle.receipt_types.specs.declared.sizes.TheConstants.{MOST_LINKS, MOST_SEALS};
 
 use byte_cursor::{ByteList, Out};
 use part_tree::PartTree;
@@ -78,8 +79,8 @@ pub fn write_bundle(alloc: Global, bundle: &Bundle) -> Result<ByteList, AllocErr
 
 // Appends the bytes of an entry that keeps its limits.
 fn put_entry(out: &mut Out, entry: &Entry) -> Result<(), AllocError>
-    requires few_links { length entry.now.links ≤ 16777216 }
-    requires few_seals { length entry.now.seals ≤ 65535 }
+    requires few_links { length entry.now.links ≤ MOST_LINKS }
+    requires few_seals { length entry.now.seals ≤ MOST_SEALS }
     requires seals { AllSealLimits entry.now.seals }
     ensures { OnOk result (out.new ≡ out.old ++ entry_bytes entry.now) }
 {

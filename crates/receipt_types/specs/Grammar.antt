@@ -7,6 +7,8 @@ use Rattle.part_tree.specs.Part.{Part, pruned, branch, leaf}
 use Rattle.part_tree.specs.Canonical.{page_count, BranchesOpen, IsBranch}
 use Rattle.receipt_types.specs.Seals.{Seal}
 use Rattle.receipt_types.specs.Bundles.{Entry, Bundle}
+use Rattle.part_tree.specs.declared.sizes.TheConstants.{HEIGHT, MOST_PAGES}
+use Rattle.receipt_types.specs.declared.sizes.TheConstants.{MOST_ENTRIES, MOST_LINKS, MOST_SEALS, MOST_STEPS, MOST_WORDS}
 
 -- a number of two bytes, and one of four
 abbrev pub HalfRule : ℕ → List ℕ → Type 0
@@ -30,10 +32,10 @@ NodeRule (suc h) (leaf page) bytes = ⊥
 
 -- the whole tree has height 18, its root is a branch, every branch has a page below it, and at most 4,096 pages are open
 pub record TreeRule (t : Part) (bytes : List ℕ) : Type 0 where
-  pub node : NodeRule 18 t bytes
+  pub node : NodeRule HEIGHT t bytes
   pub root : IsBranch t
   pub branches : BranchesOpen t
-  pub few : page_count t ≤ 4096
+  pub few : page_count t ≤ MOST_PAGES
 
 -- pc, a multiple of 4; steps, 1 to 16,777,216; number of words, at most 16,777,216; the words; the tree
 pub record SealRule (seal : Seal) (bytes : List ℕ) : Type 0 where
@@ -47,9 +49,9 @@ pub record SealRule (seal : Seal) (bytes : List ℕ) : Type 0 where
   pub aligned : seal.pc % 4 ≡ 0
   pub is_steps : WordRule seal.steps steps
   pub some_steps : 0 < seal.steps
-  pub few_steps : seal.steps ≤ 16777216
+  pub few_steps : seal.steps ≤ MOST_STEPS
   pub is_count : WordRule (length seal.words) count
-  pub few_words : length seal.words ≤ 16777216
+  pub few_words : length seal.words ≤ MOST_WORDS
   pub are_words : EachRule WordRule seal.words words
   pub is_tree : TreeRule seal.tree tree
 
@@ -65,10 +67,10 @@ pub record EntryRule (e n : ℕ) (entry : Entry) (bytes : List ℕ) : Type 0 whe
   pub seals : List ℕ
   pub parts : bytes ≡ link_count ++ (seal_count ++ (links ++ seals))
   pub is_link_count : WordRule (length entry.links) link_count
-  pub few_links : length entry.links ≤ 16777216
+  pub few_links : length entry.links ≤ MOST_LINKS
   pub is_seal_count : WordRule (length entry.seals) seal_count
   pub some_seals : 0 < length entry.seals
-  pub few_seals : length entry.seals ≤ 65535
+  pub few_seals : length entry.seals ≤ MOST_SEALS
   pub are_links : EachRule (LinkRule e n) entry.links links
   pub are_seals : EachRule SealRule entry.seals seals
 
@@ -86,5 +88,5 @@ pub record BundleRule (B : Bundle) (bytes : List ℕ) : Type 0 where
   pub is_version : HalfRule 1 version
   pub is_count : HalfRule (length B) count
   pub some_entries : 0 < length B
-  pub few_entries : length B ≤ 256
+  pub few_entries : length B ≤ MOST_ENTRIES
   pub are_entries : EntriesRule 0 (length B) B entries

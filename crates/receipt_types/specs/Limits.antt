@@ -3,14 +3,15 @@ use Rattle.std.specs.Prelude.{◌≡◌, ℕ, ◌+◌, ◌%◌, ◌^◌, ◌<◌
 use Rattle.part_tree.specs.Canonical.{IsCanonical}
 use Rattle.receipt_types.specs.Seals.{Seal}
 use Rattle.receipt_types.specs.Bundles.{Entry, Bundle}
+use Rattle.receipt_types.specs.declared.sizes.TheConstants.{MOST_ENTRIES, MOST_LINKS, MOST_SEALS, MOST_STEPS, MOST_WORDS}
 
 -- the numbers of a seal: an aligned pc, 1 to 16,777,216 steps, and at most 16,777,216 words
 pub record NumberLimits (pc steps words : ℕ) : Type 0 where
   pub aligned : pc % 4 ≡ 0
   pub is_word : pc < 2 ^ 32
   pub some_steps : 0 < steps
-  pub few_steps : steps ≤ 16777216
-  pub few_words : words ≤ 16777216
+  pub few_steps : steps ≤ MOST_STEPS
+  pub few_words : words ≤ MOST_WORDS
 
 -- these numbers, words below 2 ^ 32, and a tree of canonical form
 pub record SealLimits (seal : Seal) : Type 0 where
@@ -24,10 +25,10 @@ AllSealLimits (seal ∷ seals) = SealLimits seal × AllSealLimits seals
 
 -- entry e of n: at most 16,777,216 links, each to a later entry, and 1 to 65,535 seals
 pub record EntryLimits (e n : ℕ) (entry : Entry) : Type 0 where
-  pub few_links : length entry.links ≤ 16777216
+  pub few_links : length entry.links ≤ MOST_LINKS
   pub links : All (λ link. (e < link) × (link < n)) entry.links
   pub some_seals : 0 < length entry.seals
-  pub few_seals : length entry.seals ≤ 65535
+  pub few_seals : length entry.seals ≤ MOST_SEALS
   pub seals : AllSealLimits entry.seals
 
 -- the entries from entry e of n on
@@ -38,5 +39,5 @@ AllEntryLimits e n (entry ∷ entries) = EntryLimits e n entry × AllEntryLimits
 -- 1 to 256 entries
 pub record KeepsLimits (B : Bundle) : Type 0 where
   pub some_entries : 0 < length B
-  pub few_entries : length B ≤ 256
+  pub few_entries : length B ≤ MOST_ENTRIES
   pub entries : AllEntryLimits 0 (length B) B

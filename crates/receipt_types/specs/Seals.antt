@@ -2,6 +2,7 @@
 use Rattle.std.specs.Prelude.{◌≡◌, ℕ, ◌+◌, ◌%◌, ◌^◌, ◌<◌, List, [], ◌∷◌, ◌++◌}
 use Rattle.std.specs.Coded.{Coded, code_by, coded×, coded_ℕ, coded_list}
 use Rattle.std.proofs.Common.{refl}
+use Rattle.part_tree.specs.declared.sizes.TheConstants.{HEIGHT}
 use Rattle.part_tree.specs.Part.{Part, IsPart}
 use Rattle.part_tree.specs.Codes.{part_code}
 
@@ -25,7 +26,7 @@ pub record IsSeal (seal : Seal) : Type 0 where
   pub aligned : seal.pc % 4 ≡ 0
   pub is_word : seal.pc < 2 ^ 32
   pub some_steps : 0 < seal.steps
-  pub shape : IsPart 18 seal.tree
+  pub shape : IsPart HEIGHT seal.tree
 
 -- the words and steps of seals, one after the other
 abbrev pub words_of : List Seal → List ℕ

@@ -5,9 +5,11 @@ ghost use Rattle.receipt_types.specs.Laws.{LimitsGiveForm, SpelledByRules};
 
 mod bundle;
 mod seal;
+mod sizes;
 
 pub use bundle::{Bundle, Entry, EntryList, LinkList, SealList};
 pub use seal::Seal;
+pub use sizes::{MOST_ENTRIES, MOST_LINKS, MOST_SEALS, MOST_STEPS, MOST_WORDS};
 
 /// A bundle that keeps the limits of a receipt has the form of a bundle.
 pub fn limits_give_form()

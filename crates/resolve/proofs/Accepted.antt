@@ -17,7 +17,7 @@ use Rattle.check_core.specs.Checked.{IsAccepted}
 use Rattle.check_core.specs.Judgement.{Answered, AllAccepted}
 use Rattle.check_core.proofs.Firsts.{first_is}
 use Rattle.check_core.proofs.Unstopped.{same_bytes}
-use Rattle.resolve.specs.Bundling.{raised, placed, first_with, links_for, resolved}
+use Rattle.resolve.specs.Bundling.{raised_entry, placed_entries, first_with, links_for, resolved_bundle}
 use Rattle.resolve.specs.Laws.{ResolvedIsAccepted}
 use Rattle.resolve.proofs.Links.{has_links}
 
@@ -48,19 +48,19 @@ module _ (H : List ℕ → List ℕ) (is_digest : (x : List ℕ) → IsDigest (H
   has_entry (Some entry) digest size e = (entry, refl)
   has_entry None digest size e = let none : length digest ≡ 0 = ap length e in absurd (omega (arith, none, size))
 
-  raised_answers : (k : ℕ) (other : Bundle) → ((l : ℕ) (entry : Entry) → item other l ≡ Some entry → item B (k + l) ≡ Some (raised k entry))
+  raised_answers : (k : ℕ) (other : Bundle) → ((l : ℕ) (entry : Entry) → item other l ≡ Some entry → item B (k + l) ≡ Some (raised_entry k entry))
       → (calls : List AssumeCall) (links : List ℕ) → Answered H other calls links → Answered H B calls (map (λ l. k + l) links)
   raised_answers k other shift [] [] h = tt
   raised_answers k other shift [] (link ∷ links) h = absurd h
   raised_answers k other shift (call ∷ calls) [] h = absurd h
   raised_answers k other shift (call ∷ calls) (link ∷ links) h =
       let (entry, is_entry) = has_entry (item other link) (ok_digest H call) (is_digest (ok_string H call)).0 h.0 in (
-        h.0 ∙ digest_at other link entry is_entry ∙ sym (digest_at B (k + link) (raised k entry) (shift link entry is_entry)),
+        h.0 ∙ digest_at other link entry is_entry ∙ sym (digest_at B (k + link) (raised_entry k entry) (shift link entry is_entry)),
         raised_answers k other shift calls links h.1,
       )
 
-  raised_accepted : (k : ℕ) (other entries : Bundle) → ((l : ℕ) (entry : Entry) → item other l ≡ Some entry → item B (k + l) ≡ Some (raised k entry))
-      → AllAccepted H other entries → AllAccepted H B (map (raised k) entries)
+  raised_accepted : (k : ℕ) (other entries : Bundle) → ((l : ℕ) (entry : Entry) → item other l ≡ Some entry → item B (k + l) ≡ Some (raised_entry k entry))
+      → AllAccepted H other entries → AllAccepted H B (map (raised_entry k) entries)
   raised_accepted k other [] shift all = tt
   raised_accepted k other (entry ∷ entries) shift all = (
     record { halts = all.0.halts; answered = raised_answers k other shift all.0.halts.claim.calls entry.links all.0.answered },
@@ -71,16 +71,16 @@ module _ (H : List ℕ → List ℕ) (is_digest : (x : List ℕ) → IsDigest (H
   both_accepted [] ys h k = k
   both_accepted (x ∷ xs) ys h k = (h.0, both_accepted xs ys h.1 k)
 
-  placed_accepted : (before : List Entry) (k : ℕ) (others : List Bundle) → length before ≡ k → B ≡ before ++ placed k others → All (λ other. IsAccepted H other) others → AllAccepted H B (placed k others)
+  placed_accepted : (before : List Entry) (k : ℕ) (others : List Bundle) → length before ≡ k → B ≡ before ++ placed_entries k others → All (λ other. IsAccepted H other) others → AllAccepted H B (placed_entries k others)
   placed_accepted before k [] size e all = tt
   placed_accepted before k (other ∷ others) size e all =
-      let mine = map (raised k) other in
-      let rest = placed (k + length other) others in
-      let shift : (l : ℕ) (entry : Entry) → item other l ≡ Some entry → item B (k + l) ≡ Some (raised k entry) =
+      let mine = map (raised_entry k) other in
+      let rest = placed_entries (k + length other) others in
+      let shift : (l : ℕ) (entry : Entry) → item other l ≡ Some entry → item B (k + l) ≡ Some (raised_entry k entry) =
       λ l entry h.
       ap₂ item e (ap (λ (n : ℕ). n + l) (sym size)) ∙ item_right before (mine ++ rest) l
-      ∙ item_left mine rest l (raised k entry) (item_map (raised k) other l entry h) in
-      let sizes : length (before ++ mine) ≡ k + length other = length-append before mine ∙ ap₂ ◌+◌ size (length-map other (raised k)) in
+      ∙ item_left mine rest l (raised_entry k entry) (item_map (raised_entry k) other l entry h) in
+      let sizes : length (before ++ mine) ≡ k + length other = length-append before mine ∙ ap₂ ◌+◌ size (length-map other (raised_entry k)) in
       both_accepted mine rest
       (raised_accepted k other other shift (All-head (λ other. IsAccepted H other) other others all).1.entries)
       (placed_accepted (before ++ mine) (k + length other) others sizes (e ∙ sym (append_assoc before mine rest)) (All-tail (λ other. IsAccepted H other) other others all))
@@ -111,20 +111,20 @@ entry_zero proved links = record { links = links; seals = proved.seals }
 
 pub record ResolvedParts (H : List ℕ → List ℕ) (proved : Chained) (others : List Bundle) (B : Bundle) : Type 0 where
   pub links : List ℕ
-  pub linked : links_for H (placed 1 others) proved.claim.calls ≡ Some links
-  pub is : entry_zero proved links ∷ placed 1 others ≡ B
+  pub linked : links_for H (placed_entries 1 others) proved.claim.calls ≡ Some links
+  pub is : entry_zero proved links ∷ placed_entries 1 others ≡ B
 
-pub resolved_parts : (H : List ℕ → List ℕ) (proved : Chained) (others : List Bundle) (B : Bundle) → resolved H proved others ≡ Some B → ResolvedParts H proved others B
-resolved_parts H proved others B h = go (links_for H (placed 1 others) proved.claim.calls) refl h
+pub resolved_parts : (H : List ℕ → List ℕ) (proved : Chained) (others : List Bundle) (B : Bundle) → resolved_bundle H proved others ≡ Some B → ResolvedParts H proved others B
+resolved_parts H proved others B h = go (links_for H (placed_entries 1 others) proved.claim.calls) refl h
   where
-    go : (o : Option (List ℕ)) → links_for H (placed 1 others) proved.claim.calls ≡ o
-        → option_map (λ (links : List ℕ). entry_zero proved links ∷ placed 1 others) o ≡ Some B → ResolvedParts H proved others B
+    go : (o : Option (List ℕ)) → links_for H (placed_entries 1 others) proved.claim.calls ≡ o
+        → option_map (λ (links : List ℕ). entry_zero proved links ∷ placed_entries 1 others) o ≡ Some B → ResolvedParts H proved others B
     go (Some links) e g = record { links = links; linked = e; is = same_Some _ B g }
     go None e g = absurd (cc)
 
-pub parts_resolved : (H : List ℕ → List ℕ) (proved : Chained) (others : List Bundle) (B : Bundle) (links : List ℕ) → links_for H (placed 1 others) proved.claim.calls ≡ Some links
-    → B ≡ entry_zero proved links ∷ placed 1 others → resolved H proved others ≡ Some B
-parts_resolved H proved others B links linked is = ap (option_map (λ (links : List ℕ). entry_zero proved links ∷ placed 1 others)) linked ∙ ap Some (sym is)
+pub parts_resolved : (H : List ℕ → List ℕ) (proved : Chained) (others : List Bundle) (B : Bundle) (links : List ℕ) → links_for H (placed_entries 1 others) proved.claim.calls ≡ Some links
+    → B ≡ entry_zero proved links ∷ placed_entries 1 others → resolved_bundle H proved others ≡ Some B
+parts_resolved H proved others B links linked is = ap (option_map (λ (links : List ℕ). entry_zero proved links ∷ placed_entries 1 others)) linked ∙ ap Some (sym is)
 
 pub resolved_accepted : (H : List ℕ → List ℕ) → ((x : List ℕ) → IsDigest (H x)) → ResolvedIsAccepted H
 resolved_accepted H is_digest proved others B code chain exit accepted h =
@@ -135,7 +135,7 @@ resolved_accepted H is_digest proved others B code chain exit accepted h =
       same_id = refl;
       entries =
           subst (λ (C : Bundle). AllAccepted H C C) p.is (
-            record { halts = record { claim = proved.claim; code = code; chain = chain; exit = exit }; answered = links_answer H (entry_zero proved p.links) (placed 1 others) proved.claim.calls p.links p.linked },
-            placed_accepted H is_digest (entry_zero proved p.links ∷ placed 1 others) (entry_zero proved p.links ∷ []) 1 others refl refl accepted,
+            record { halts = record { claim = proved.claim; code = code; chain = chain; exit = exit }; answered = links_answer H (entry_zero proved p.links) (placed_entries 1 others) proved.claim.calls p.links p.linked },
+            placed_accepted H is_digest (entry_zero proved p.links ∷ placed_entries 1 others) (entry_zero proved p.links ∷ []) 1 others refl refl accepted,
           );
     }

@@ -7,7 +7,7 @@ use Rattle.receipt_types.specs.Bundles.{Entry, Bundle}
 use Rattle.lift_join.specs.Joins.{chain_of}
 use Rattle.check_core.specs.Checked.{Checked}
 use Rattle.check_core.specs.Entries.{digest_or_none}
-use Rattle.resolve.specs.Bundling.{raised, placed}
+use Rattle.resolve.specs.Bundling.{raised_entry, placed_entries}
 use Rattle.resolve.specs.Resolving.{bundles_of}
 use Rattle.resolve.specs.Parts.{digests_of}
 use Rattle.resolve.proofs.Placed.{placed_of, bundles_more, placed_more, placed_within}
@@ -18,19 +18,19 @@ claims_long H claims entries told = ap length told ∙ length-map entries (λ (e
 
 module _ (others : List Checked) (i : ℕ) (other d : Checked) (low : i < length others) (is : other ≡ get_or others i d) where
   -- the next bundle has its room
-  pub room_for_next : (first : Entry) (old : List Entry) (most : ℕ) → old ≡ first ∷ placed_of others i → length (placed 1 (bundles_of others)) + 1 ≤ most → length old + length other.bundle ≤ most
+  pub room_for_next : (first : Entry) (old : List Entry) (most : ℕ) → old ≡ first ∷ placed_of others i → length (placed_entries 1 (bundles_of others)) + 1 ≤ most → length old + length other.bundle ≤ most
   room_for_next first old most e few =
       let within = placed_within others i other d low is in
       let size = ap length e in
       omega (arith, within, size, few)
 
   -- and its entries come next
-  pub gathered_more : (first : Entry) (old : List Entry) → old ≡ first ∷ placed_of others i → old ++ map (raised (length old)) other.bundle ≡ first ∷ placed_of others (i + 1)
+  pub gathered_more : (first : Entry) (old : List Entry) → old ≡ first ∷ placed_of others i → old ++ map (raised_entry (length old)) other.bundle ≡ first ∷ placed_of others (i + 1)
   gathered_more first old e =
       let n : ℕ = length (placed_of others i) in
       let number : suc n ≡ 1 + n = omega arith in
-      ap (λ (es : List Entry). es ++ map (raised (length es)) other.bundle) e
-      ∙ ap (λ (k : ℕ). first ∷ (placed_of others i ++ map (raised k) other.bundle)) number
+      ap (λ (es : List Entry). es ++ map (raised_entry (length es)) other.bundle) e
+      ∙ ap (λ (k : ℕ). first ∷ (placed_of others i ++ map (raised_entry k) other.bundle)) number
       ∙ ap (λ (es : List Entry). first ∷ es) (sym (placed_more others i other d low is))
 
   -- what holds of each bundle so far holds with the next

@@ -11,7 +11,7 @@ use Rattle.receipt_types.specs.Limits.{AllEntryLimits, KeepsLimits}
 use Rattle.std.proofs.lemmas.Option.{same_Some}
 use Rattle.lift_join.specs.Joins.{chain_of}
 use Rattle.check_core.specs.Entries.{digest_or_none}
-use Rattle.resolve.specs.Bundling.{raised, placed, first_with, links_for}
+use Rattle.resolve.specs.Bundling.{raised_entry, placed_entries, first_with, links_for}
 use Rattle.resolve.specs.Laws.{ResolvedKeepsLimits}
 use Rattle.resolve.proofs.Links.{has_links}
 use Rattle.resolve.proofs.Accepted.{entry_zero, resolved_parts}
@@ -42,7 +42,7 @@ module _ (H : List ℕ → List ℕ) (entries : List Entry) where
       (All-cons (λ link. (0 < link) × (link < n)) l.link l.rest (omega (arith, above), omega (arith, below, size)) (links_within n size calls l.rest l.is_rest))
 
 -- ---- the others' entries, raised
-raised_limits : (e k m n : ℕ) (entries : List Entry) → k + m ≤ n → AllEntryLimits e m entries → AllEntryLimits (k + e) n (map (raised k) entries)
+raised_limits : (e k m n : ℕ) (entries : List Entry) → k + m ≤ n → AllEntryLimits e m entries → AllEntryLimits (k + e) n (map (raised_entry k) entries)
 raised_limits e k m n [] room all = tt
 raised_limits e k m n (entry ∷ entries) room all =
     let size = length-map entry.links (λ link. k + link) in
@@ -58,7 +58,7 @@ raised_limits e k m n (entry ∷ entries) room all =
         few_seals = all.0.few_seals;
         seals = all.0.seals;
       },
-      subst (λ (j : ℕ). AllEntryLimits j n (map (raised k) entries)) next (raised_limits (e + 1) k m n entries room all.1),
+      subst (λ (j : ℕ). AllEntryLimits j n (map (raised_entry k) entries)) next (raised_limits (e + 1) k m n entries room all.1),
     )
 
 both_limits : (e n : ℕ) (xs ys : List Entry) → AllEntryLimits e n xs → AllEntryLimits (e + length xs) n ys → AllEntryLimits e n (xs ++ ys)
@@ -67,12 +67,12 @@ both_limits e n (x ∷ xs) ys h k =
     let next : e + suc (length xs) ≡ e + 1 + length xs = omega arith in
     (h.0, both_limits (e + 1) n xs ys h.1 (subst (λ (j : ℕ). AllEntryLimits j n ys) next k))
 
-placed_limits : (k n : ℕ) (others : List Bundle) → k + length (placed k others) ≤ n → All (λ other. KeepsLimits other) others → AllEntryLimits k n (placed k others)
+placed_limits : (k n : ℕ) (others : List Bundle) → k + length (placed_entries k others) ≤ n → All (λ other. KeepsLimits other) others → AllEntryLimits k n (placed_entries k others)
 placed_limits k n [] room all = tt
 placed_limits k n (other ∷ others) room all =
-    let mine = map (raised k) other in
-    let rest = placed (k + length other) others in
-    let size : length mine ≡ length other = length-map other (raised k) in
+    let mine = map (raised_entry k) other in
+    let rest = placed_entries (k + length other) others in
+    let size : length mine ≡ length other = length-map other (raised_entry k) in
     let sizes : length (mine ++ rest) ≡ length mine + length rest = length-append mine rest in
     let here : k + length other ≤ n = omega (arith, size, sizes, room) in
     let later : k + length other + length rest ≤ n = omega (arith, size, sizes, room) in
@@ -86,10 +86,10 @@ placed_limits k n (other ∷ others) room all =
 pub resolved_keeps : (H : List ℕ → List ℕ) → ResolvedKeepsLimits H
 resolved_keeps H proved others B seals some_seals few_seals few_calls limits h =
     let p = resolved_parts H proved others B h.is in
-    let whole : Bundle = entry_zero proved p.links ∷ placed 1 others in
-    let size : suc (length (placed 1 others)) ≡ length B = ap length p.is in
-    let long = links_long H (placed 1 others) proved.claim.calls p.links p.linked in
-    let room : 1 + length (placed 1 others) ≤ length B = omega (arith, size) in
+    let whole : Bundle = entry_zero proved p.links ∷ placed_entries 1 others in
+    let size : suc (length (placed_entries 1 others)) ≡ length B = ap length p.is in
+    let long = links_long H (placed_entries 1 others) proved.claim.calls p.links p.linked in
+    let room : 1 + length (placed_entries 1 others) ≤ length B = omega (arith, size) in
     let few = h.few in
     record {
       some_entries = omega (arith, size);
@@ -98,7 +98,7 @@ resolved_keeps H proved others B seals some_seals few_seals few_calls limits h =
           subst (λ (C : Bundle). AllEntryLimits 0 (length B) C) p.is (
             record {
               few_links = omega (arith, long, few_calls);
-              links = links_within H (placed 1 others) (length B) size proved.claim.calls p.links p.linked;
+              links = links_within H (placed_entries 1 others) (length B) size proved.claim.calls p.links p.linked;
               some_seals = some_seals;
               few_seals = few_seals;
               seals = seals;

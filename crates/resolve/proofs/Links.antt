@@ -9,7 +9,7 @@ use Rattle.std.proofs.lemmas.Option.{same_Some}
 use Rattle.claim_types.specs.Claims.{ok_digest}
 use Rattle.receipt_types.specs.Bundles.{Entry}
 use Rattle.resolve.specs.Bundling.{first_with, with_first, links_for}
-use Rattle.resolve.specs.Resolving.{or_later, unanswered}
+use Rattle.resolve.specs.Resolving.{or_later, first_unanswered}
 use Rattle.resolve.specs.Parts.{digests_of, place_in}
 use Rattle.resolve.proofs.Places.{first_is_next, place_low}
 
@@ -36,7 +36,7 @@ module _ (H : List ℕ → List ℕ) (entries : List Entry) where
       ap₂ with_first l.is_link (links_more calls l.rest call link l.is_rest found) ∙ ap (λ (ls : List ℕ). Some (ls ++ link ∷ [])) (sym l.is)
 
   -- where each call has its link, none is unanswered
-  pub all_answered : (k : ℕ) (calls : List AssumeCall) (links : List ℕ) → links_for H entries calls ≡ Some links → unanswered H entries k calls ≡ None
+  pub all_answered : (k : ℕ) (calls : List AssumeCall) (links : List ℕ) → links_for H entries calls ≡ Some links → first_unanswered H entries k calls ≡ None
   all_answered k [] links h = refl
   all_answered k (call ∷ calls) links h =
       let l = has_links (first_with H (ok_digest H call) 1 entries) (links_for H entries calls) links h in
@@ -47,7 +47,7 @@ pub record LinksSoFar (H : List ℕ → List ℕ) (claims : List (List ℕ)) (ca
   pub count : length links ≡ k
   pub low : All (λ link. link ≤ length claims) links
   pub are : (entries : List Entry) → claims ≡ digests_of H entries → links_for H entries (take k calls) ≡ Some links
-  pub later : (entries : List Entry) → claims ≡ digests_of H entries → unanswered H entries 0 calls ≡ unanswered H entries k (drop k calls)
+  pub later : (entries : List Entry) → claims ≡ digests_of H entries → first_unanswered H entries 0 calls ≡ first_unanswered H entries k (drop k calls)
 
 module _ (H : List ℕ → List ℕ) (claims : List (List ℕ)) (calls : List AssumeCall) where
   pub none_linked : LinksSoFar H claims calls 0 []
@@ -59,15 +59,15 @@ module _ (H : List ℕ → List ℕ) (claims : List (List ℕ)) (calls : List As
       found_is entries same = first_is_next H (ok_digest H call) entries claims place same (at ∙ ap (λ (w : List ℕ). place_in w 0 claims) asks)
 
       later_here : (entries : List Entry) → claims ≡ digests_of H entries
-          → unanswered H entries 0 calls ≡ or_later (option_map (λ n. n + 1) place) k (unanswered H entries (k + 1) (drop (k + 1) calls))
+          → first_unanswered H entries 0 calls ≡ or_later (option_map (λ n. n + 1) place) k (first_unanswered H entries (k + 1) (drop (k + 1) calls))
       later_here entries same =
           so_far.later entries same
-          ∙ ap (unanswered H entries k) (drop_more calls k d low ∙ ap (λ (x : AssumeCall). x ∷ drop (k + 1) calls) (sym is))
-          ∙ ap (λ (o : Option ℕ). or_later o k (unanswered H entries (k + 1) (drop (k + 1) calls))) (found_is entries same)
+          ∙ ap (first_unanswered H entries k) (drop_more calls k d low ∙ ap (λ (x : AssumeCall). x ∷ drop (k + 1) calls) (sym is))
+          ∙ ap (λ (o : Option ℕ). or_later o k (first_unanswered H entries (k + 1) (drop (k + 1) calls))) (found_is entries same)
 
       -- call k is not answered
-      pub call_missed : place ≡ None → (entries : List Entry) → claims ≡ digests_of H entries → unanswered H entries 0 calls ≡ Some k
-      call_missed none entries same = later_here entries same ∙ ap (λ (o : Option ℕ). or_later (option_map (λ n. n + 1) o) k (unanswered H entries (k + 1) (drop (k + 1) calls))) none
+      pub call_missed : place ≡ None → (entries : List Entry) → claims ≡ digests_of H entries → first_unanswered H entries 0 calls ≡ Some k
+      call_missed none entries same = later_here entries same ∙ ap (λ (o : Option ℕ). or_later (option_map (λ n. n + 1) o) k (first_unanswered H entries (k + 1) (drop (k + 1) calls))) none
 
       -- it is
       pub call_linked : (n : ℕ) → place ≡ Some n → LinksSoFar H claims calls (k + 1) (links ++ (n + 1) ∷ [])
@@ -83,7 +83,7 @@ module _ (H : List ℕ → List ℕ) (claims : List (List ℕ)) (calls : List As
                 ∙ links_more H entries (take k calls) links call (n + 1) (so_far.are entries same) (found_is entries same ∙ ap (option_map (λ (m : ℕ). m + 1)) some);
             later =
                 λ entries same.
-                later_here entries same ∙ ap (λ (o : Option ℕ). or_later (option_map (λ m. m + 1) o) k (unanswered H entries (k + 1) (drop (k + 1) calls))) some;
+                later_here entries same ∙ ap (λ (o : Option ℕ). or_later (option_map (λ m. m + 1) o) k (first_unanswered H entries (k + 1) (drop (k + 1) calls))) some;
           }
 
     pub all_linked : length calls ≤ k → (entries : List Entry) → claims ≡ digests_of H entries → links_for H entries calls ≡ Some links

@@ -12,29 +12,29 @@ use Rattle.lift_join.specs.Joins.{chain_of}
 use Rattle.check_core.specs.Checked.{Checked}
 use Rattle.check_core.specs.Entries.{digest_or_none}
 use Rattle.check_core.specs.Reports.{EntryReport, Report, entry_report, with_report, entry_reports, report_of}
-use Rattle.resolve.specs.Bundling.{raised, placed}
+use Rattle.resolve.specs.Bundling.{raised_entry, placed_entries}
 use Rattle.resolve.specs.Resolving.{bundles_of}
 use Rattle.resolve.specs.Parts.{digests_of, raised_report}
 
 -- ---- the places of bundles
-placed_append : (k : ℕ) (xs ys : List Bundle) → placed k (xs ++ ys) ≡ placed k xs ++ placed (k + length (placed k xs)) ys
-placed_append k [] ys = let none : k ≡ k + 0 = omega arith in ap (λ (n : ℕ). placed n ys) none
+placed_append : (k : ℕ) (xs ys : List Bundle) → placed_entries k (xs ++ ys) ≡ placed_entries k xs ++ placed_entries (k + length (placed_entries k xs)) ys
+placed_append k [] ys = let none : k ≡ k + 0 = omega arith in ap (λ (n : ℕ). placed_entries n ys) none
 placed_append k (B ∷ xs) ys =
-    let mine : List Entry = map (raised k) B in
-    let rest : List Entry = placed (k + length B) xs in
-    let sizes : length (mine ++ rest) ≡ length B + length rest = length-append mine rest ∙ ap (λ (n : ℕ). n + length rest) (length-map B (raised k)) in
+    let mine : List Entry = map (raised_entry k) B in
+    let rest : List Entry = placed_entries (k + length B) xs in
+    let sizes : length (mine ++ rest) ≡ length B + length rest = length-append mine rest ∙ ap (λ (n : ℕ). n + length rest) (length-map B (raised_entry k)) in
     let number : k + length B + length rest ≡ k + length (mine ++ rest) = omega (arith, sizes) in
-    ap (λ (es : List Entry). mine ++ es) (placed_append (k + length B) xs ys ∙ ap (λ (n : ℕ). rest ++ placed n ys) number)
-    ∙ sym (append_assoc mine rest (placed (k + length (mine ++ rest)) ys))
+    ap (λ (es : List Entry). mine ++ es) (placed_append (k + length B) xs ys ∙ ap (λ (n : ℕ). rest ++ placed_entries n ys) number)
+    ∙ sym (append_assoc mine rest (placed_entries (k + length (mine ++ rest)) ys))
 
-placed_last : (k : ℕ) (xs : List Bundle) (B : Bundle) → placed k (xs ++ B ∷ []) ≡ placed k xs ++ map (raised (k + length (placed k xs))) B
+placed_last : (k : ℕ) (xs : List Bundle) (B : Bundle) → placed_entries k (xs ++ B ∷ []) ≡ placed_entries k xs ++ map (raised_entry (k + length (placed_entries k xs))) B
 placed_last k xs B =
     placed_append k xs (B ∷ [])
-    ∙ ap (λ (es : List Entry). placed k xs ++ es) (append-nil (map (raised (k + length (placed k xs))) B))
+    ∙ ap (λ (es : List Entry). placed_entries k xs ++ es) (append-nil (map (raised_entry (k + length (placed_entries k xs))) B))
 
 -- the entries of the first i of others
 abbrev pub placed_of : List Checked → ℕ → List Entry
-placed_of others i = placed 1 (bundles_of (take i others))
+placed_of others i = placed_entries 1 (bundles_of (take i others))
 
 module _ (others : List Checked) (i : ℕ) (other d : Checked) (low : i < length others) (is : other ≡ get_or others i d) where
   pub bundles_more : bundles_of (take (i + 1) others) ≡ bundles_of (take i others) ++ other.bundle ∷ []
@@ -42,26 +42,26 @@ module _ (others : List Checked) (i : ℕ) (other d : Checked) (low : i < length
       map_more (λ (x : Checked). x.bundle) others i d low
       ∙ ap (λ (x : Checked). bundles_of (take i others) ++ x.bundle ∷ []) (sym is)
 
-  pub placed_more : placed_of others (i + 1) ≡ placed_of others i ++ map (raised (1 + length (placed_of others i))) other.bundle
-  placed_more = ap (placed 1) bundles_more ∙ placed_last 1 (bundles_of (take i others)) other.bundle
+  pub placed_more : placed_of others (i + 1) ≡ placed_of others i ++ map (raised_entry (1 + length (placed_of others i))) other.bundle
+  placed_more = ap (placed_entries 1) bundles_more ∙ placed_last 1 (bundles_of (take i others)) other.bundle
 
   -- there is room for one more
-  pub placed_within : length (placed_of others i) + length other.bundle ≤ length (placed 1 (bundles_of others))
+  pub placed_within : length (placed_of others i) + length other.bundle ≤ length (placed_entries 1 (bundles_of others))
   placed_within =
       let front = bundles_of (take (i + 1) others) in
       let back = bundles_of (drop (i + 1) others) in
       let whole : bundles_of others ≡ front ++ back =
       ap bundles_of (sym (take-append-drop (i + 1) others)) ∙ map-append (λ (x : Checked). x.bundle) (take (i + 1) others) (drop (i + 1) others) in
-      let sizes : length (placed 1 (bundles_of others)) ≡ length (placed 1 front) + length (placed (1 + length (placed 1 front)) back) =
-      ap length (ap (placed 1) whole ∙ placed_append 1 front back) ∙ length-append (placed 1 front) (placed (1 + length (placed 1 front)) back) in
-      let more : length (placed 1 front) ≡ length (placed_of others i) + length other.bundle =
+      let sizes : length (placed_entries 1 (bundles_of others)) ≡ length (placed_entries 1 front) + length (placed_entries (1 + length (placed_entries 1 front)) back) =
+      ap length (ap (placed_entries 1) whole ∙ placed_append 1 front back) ∙ length-append (placed_entries 1 front) (placed_entries (1 + length (placed_entries 1 front)) back) in
+      let more : length (placed_entries 1 front) ≡ length (placed_of others i) + length other.bundle =
       ap length placed_more
-      ∙ length-append (placed_of others i) (map (raised (1 + length (placed_of others i))) other.bundle)
-      ∙ ap (λ (n : ℕ). length (placed_of others i) + n) (length-map other.bundle (raised (1 + length (placed_of others i)))) in
+      ∙ length-append (placed_of others i) (map (raised_entry (1 + length (placed_of others i))) other.bundle)
+      ∙ ap (λ (n : ℕ). length (placed_of others i) + n) (length-map other.bundle (raised_entry (1 + length (placed_of others i)))) in
       omega (arith, sizes, more)
 
-pub placed_all : (others : List Checked) (i : ℕ) → length others ≤ i → placed_of others i ≡ placed 1 (bundles_of others)
-placed_all others i all = ap (λ (xs : List Checked). placed 1 (bundles_of xs)) (take_all i others all)
+pub placed_all : (others : List Checked) (i : ℕ) → length others ≤ i → placed_of others i ≡ placed_entries 1 (bundles_of others)
+placed_all others i all = ap (λ (xs : List Checked). placed_entries 1 (bundles_of xs)) (take_all i others all)
 
 -- ---- what is told of raised entries
 module _ (H : List ℕ → List ℕ) where
@@ -88,7 +88,7 @@ module _ (H : List ℕ → List ℕ) where
   has_claim entry None report h = absurd (cc)
 
   -- raising links keeps claim digests
-  digests_raised : (k : ℕ) (entries : List Entry) → digests_of H (map (raised k) entries) ≡ digests_of H entries
+  digests_raised : (k : ℕ) (entries : List Entry) → digests_of H (map (raised_entry k) entries) ≡ digests_of H entries
   digests_raised k [] = refl
   digests_raised k (entry ∷ entries) = ap (λ (ds : List (List ℕ)). digest_or_none H (chain_of H entry.seals) ∷ ds) (digests_raised k entries)
 
@@ -102,13 +102,13 @@ module _ (H : List ℕ → List ℕ) where
       ∙ ap₂ (λ (d : List ℕ) (ds : List (List ℕ)). d ∷ ds) (ap (λ (r : EntryReport). r.claim) one.is ∙ ap (digest_or_none H) (sym one.is_claim)) (reported_digests entries parts.rest parts.is_rest)
 
   -- raised entries have raised reports
-  reports_raised : (k : ℕ) (entries : List Entry) (reports : List EntryReport) → entry_reports H entries ≡ Some reports → entry_reports H (map (raised k) entries) ≡ Some (map (raised_report k) reports)
+  reports_raised : (k : ℕ) (entries : List Entry) (reports : List EntryReport) → entry_reports H entries ≡ Some reports → entry_reports H (map (raised_entry k) entries) ≡ Some (map (raised_report k) reports)
   reports_raised k [] reports told = ap (λ (rs : List EntryReport). Some (map (raised_report k) rs)) (same_Some [] reports told)
   reports_raised k (entry ∷ entries) reports told =
       let parts = has_reports (option_map (entry_report H entry) (chain_of H entry.seals)) (entry_reports H entries) reports told in
       let one = has_claim entry (chain_of H entry.seals) parts.first parts.is_first in
-      let here : option_map (entry_report H (raised k entry)) (chain_of H entry.seals) ≡ Some (raised_report k parts.first) =
-      ap (option_map (entry_report H (raised k entry))) one.is_claim ∙ ap (λ (r : EntryReport). Some (raised_report k r)) (sym one.is) in
+      let here : option_map (entry_report H (raised_entry k entry)) (chain_of H entry.seals) ≡ Some (raised_report k parts.first) =
+      ap (option_map (entry_report H (raised_entry k entry))) one.is_claim ∙ ap (λ (r : EntryReport). Some (raised_report k r)) (sym one.is) in
       ap₂ with_report here (reports_raised k entries parts.rest parts.is_rest)
       ∙ ap (λ (rs : List EntryReport). Some (map (raised_report k) rs)) (sym parts.is)
 
@@ -149,7 +149,7 @@ module _ (H : List ℕ → List ℕ) where
     claims_more : digests_of H (placed_of others (i + 1)) ≡ digests_of H (placed_of others i) ++ map (λ report. report.claim) other.report.entries
     claims_more =
         ap (digests_of H) (placed_more others i other d low is)
-        ∙ map-append (λ (entry : Entry). digest_or_none H (chain_of H entry.seals)) (placed_of others i) (map (raised (1 + length (placed_of others i))) other.bundle)
+        ∙ map-append (λ (entry : Entry). digest_or_none H (chain_of H entry.seals)) (placed_of others i) (map (raised_entry (1 + length (placed_of others i))) other.bundle)
         ∙ ap (λ (ds : List (List ℕ)). digests_of H (placed_of others i) ++ ds)
         (digests_raised (1 + length (placed_of others i)) other.bundle ∙ sym (reported_digests other.bundle other.report.entries (told_reports other.bundle other.report told)))
 
@@ -166,6 +166,6 @@ module _ (H : List ℕ → List ℕ) where
         let n : ℕ = 1 + length (placed_of others i) in
         let same : n ≡ k = omega (arith, number) in
         ap (λ (es : List Entry). entry_reports H (first ∷ es)) (placed_more others i other d low is)
-        ∙ reports_append (first ∷ placed_of others i) (map (raised n) other.bundle) reports (map (raised_report n) other.report.entries) so_far
+        ∙ reports_append (first ∷ placed_of others i) (map (raised_entry n) other.bundle) reports (map (raised_report n) other.report.entries) so_far
         (reports_raised n other.bundle other.report.entries (told_reports other.bundle other.report told))
         ∙ ap (λ (m : ℕ). Some (reports ++ map (raised_report m) other.report.entries)) same

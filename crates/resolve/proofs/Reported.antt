@@ -9,7 +9,7 @@ use Rattle.lift_join.specs.Chained.{Chained}
 use Rattle.check_core.specs.Checked.{Checked}
 use Rattle.check_core.specs.Reports.{EntryReport, entry_report, with_report, entry_reports, report_of}
 use Rattle.check_core.proofs.Claims.{reports_long}
-use Rattle.resolve.specs.Bundling.{placed}
+use Rattle.resolve.specs.Bundling.{placed_entries}
 use Rattle.resolve.specs.Resolving.{bundles_of, IsResolved}
 use Rattle.resolve.specs.Parts.{raised_report}
 use Rattle.resolve.proofs.Placed.{placed_of, placed_within, placed_all, reports_more}
@@ -48,7 +48,7 @@ module _ (H : List ℕ → List ℕ) (proved : Chained) (others : List Checked) 
       few_so_far =
           let p = resolved_parts H proved (bundles_of others) B is.is in
           let within = placed_within others i other d low here in
-          let size : suc (length (placed 1 (bundles_of others))) ≡ length B = ap length p.is in
+          let size : suc (length (placed_entries 1 (bundles_of others))) ≡ length B = ap length p.is in
           let long = so_far_long in
           let few = is.few in
           omega (arith, within, size, long, few)
@@ -66,9 +66,9 @@ module _ (H : List ℕ → List ℕ) (proved : Chained) (others : List Checked) 
     all_reported journal all chain same =
         let p = resolved_parts H proved (bundles_of others) B is.is in
         let zero_entry : Entry = entry_zero proved p.links in
-        let told : entry_reports H (zero_entry ∷ placed 1 (bundles_of others)) ≡ Some reports =
+        let told : entry_reports H (zero_entry ∷ placed_entries 1 (bundles_of others)) ≡ Some reports =
         ap (λ (es : List Entry). entry_reports H (zero_entry ∷ es)) (sym (placed_all others i all)) ∙ so_far zero_entry (ap (λ (C : Bundle). item C 0) (sym p.is)) in
         ap (report_of H) (sym p.is)
-        ∙ ap (option_and_then (λ (c : SpanClaim). option_map (λ (rs : List EntryReport). record { journal = c.journal; entries = rs }) (entry_reports H (zero_entry ∷ placed 1 (bundles_of others))))) chain
+        ∙ ap (option_and_then (λ (c : SpanClaim). option_map (λ (rs : List EntryReport). record { journal = c.journal; entries = rs }) (entry_reports H (zero_entry ∷ placed_entries 1 (bundles_of others))))) chain
         ∙ ap (option_map (λ (rs : List EntryReport). record { journal = proved.claim.journal; entries = rs })) told
         ∙ ap (λ (j : List ℕ). Some (record { journal = j; entries = reports })) (sym same)

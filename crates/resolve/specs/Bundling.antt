@@ -9,13 +9,13 @@ use Rattle.lift_join.specs.Chained.{Chained}
 use Rattle.check_core.specs.Entries.{digest_or_none}
 
 -- an entry of a bundle whose first entry gets number k
-abbrev pub raised : ℕ → Entry → Entry
-raised k entry = record { links = map (λ link. k + link) entry.links; seals = entry.seals }
+abbrev pub raised_entry : ℕ → Entry → Entry
+raised_entry k entry = record { links = map (λ link. k + link) entry.links; seals = entry.seals }
 
 -- the entries of bundles, one after the other, the first of them with number k
-abbrev pub placed : ℕ → List Bundle → List Entry
-placed k [] = []
-placed k (B ∷ others) = map (raised k) B ++ placed (k + length B) others
+abbrev pub placed_entries : ℕ → List Bundle → List Entry
+placed_entries k [] = []
+placed_entries k (B ∷ others) = map (raised_entry k) B ++ placed_entries (k + length B) others
 
 -- the number of the first entry that has this claim digest, the first of them all with number k
 abbrev pub first_with : (List ℕ → List ℕ) → List ℕ → ℕ → List Entry → Option ℕ
@@ -33,6 +33,6 @@ links_for H entries [] = Some []
 links_for H entries (call ∷ calls) = with_first (first_with H (ok_digest H call) 1 entries) (links_for H entries calls)
 
 -- entry 0 with the proved seals, and then the others' entries
-abbrev pub resolved : (List ℕ → List ℕ) → Chained → List Bundle → Option Bundle
-resolved H proved others =
-    option_map (λ links. (record { links = links; seals = proved.seals }) ∷ placed 1 others) (links_for H (placed 1 others) proved.claim.calls)
+abbrev pub resolved_bundle : (List ℕ → List ℕ) → Chained → List Bundle → Option Bundle
+resolved_bundle H proved others =
+    option_map (λ links. (record { links = links; seals = proved.seals }) ∷ placed_entries 1 others) (links_for H (placed_entries 1 others) proved.claim.calls)

@@ -6,7 +6,7 @@ use Rattle.receipt_types.specs.Bundles.{Entry}
 use Rattle.lift_join.specs.Joins.{chain_of}
 use Rattle.check_core.specs.Entries.{digest_or_none}
 use Rattle.check_core.specs.Reports.{EntryReport}
-use Rattle.resolve.specs.Resolving.{unanswered}
+use Rattle.resolve.specs.Resolving.{first_unanswered}
 use Rattle.resolve.specs.declared.stop.ResolveStop.{ResolveStop}
 use Rattle.resolve.specs.declared.stop.ResolveStop.TheVariants.{NoReceiptFor, TooManyEntries, Memory}
 
@@ -21,7 +21,7 @@ place_in wanted k (digest ∷ digests) = cond (bytes_eq wanted digest) (Some k) 
 
 -- what stops the search for links: the first call that no entry answers, or there was no memory
 abbrev pub Misses : (List ℕ → List ℕ) → List Entry → List AssumeCall → ResolveStop → Type 0
-Misses H entries calls (NoReceiptFor call) = unanswered H entries 0 calls ≡ Some call
+Misses H entries calls (NoReceiptFor call) = first_unanswered H entries 0 calls ≡ Some call
 Misses H entries calls (TooManyEntries count) = ⊥
 Misses H entries calls Memory = ⊤
 

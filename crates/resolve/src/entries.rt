@@ -3,6 +3,7 @@ ghost use Rattle.std.specs.Prelude.{◌≡◌, ◌+◌, ◌<◌, ◌≤◌, ◌+
 ghost use Rattle.std.specs.Arc.{arc_value};
 ghost use Rattle.receipt_types.specs.Limits.{KeepsLimits};
 ghost use Rattle.resolve.specs.Bundling as plain;
+ghost use Rattle.receipt_types.specs.declared.sizes.TheConstants.{MOST_ENTRIES};
 
 use digest_core::Digester;
 use lift_join::Joined;
@@ -46,9 +47,9 @@ pub(crate) fn add_bundle(
     entries: &mut EntryList,
     bundle: &Bundle,
 ) -> Result<(), AllocError>
-    requires few { length entries.old.items + length bundle.now ≤ 256 }
+    requires few { length entries.old.items + length bundle.now ≤ MOST_ENTRIES }
     requires limits { KeepsLimits bundle.now }
-    ensures { OnOk result (entries.new.items ≡ entries.old.items ++ map (plain.raised (length entries.old.items)) bundle.now) }
+    ensures { OnOk result (entries.new.items ≡ entries.old.items ++ map (plain.raised_entry (length entries.old.items)) bundle.now) }
 {
     let first = entries.len() as u16;
     for entry in bundle.entries.as_slice() {
@@ -60,7 +61,7 @@ pub(crate) fn add_bundle(
 // An entry with its links raised.
 fn raised(alloc: Global, first: u16, entry: &Entry) -> Result<Entry, AllocError>
     requires { All (λ link. first + link < 65536) entry.now.links }
-    ensures { IfOk result (λ raised. raised ≡ plain.raised first entry.now) }
+    ensures { IfOk result (λ raised. raised ≡ plain.raised_entry first entry.now) }
 {
     Ok(Entry {
         links: raised_links(alloc, first, entry.links.as_slice())?,

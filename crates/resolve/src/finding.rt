@@ -1,7 +1,7 @@
 //! The entries that answer calls, by their claim digests.
 ghost use Rattle.std.specs.Prelude.{◌≡◌, ◌≤◌, ◌++◌, List, length, map, All, Some, IfOk, OnOk, IfErr};
 ghost use Rattle.receipt_types.specs.Bundles as plain;
-ghost use Rattle.resolve.specs.Bundling.{placed, links_for};
+ghost use Rattle.resolve.specs.Bundling.{placed_entries, links_for};
 ghost use Rattle.resolve.specs.Resolving.{bundles_of};
 ghost use Rattle.resolve.specs.Parts.{digests_of, place_in, Misses};
 
@@ -18,7 +18,7 @@ pub(crate) fn claims_of<D: Digester>(
     alloc: Global,
     others: &[Checked<D>],
 ) -> Result<ItemList<Digest>, AllocError>
-    ensures { IfOk result (λ claims. claims.items ≡ digests_of D.digest_of (placed 1 (bundles_of others.now))) }
+    ensures { IfOk result (λ claims. claims.items ≡ digests_of D.digest_of (placed_entries 1 (bundles_of others.now))) }
 {
     let mut claims = ItemList::new(alloc);
     for other in others {

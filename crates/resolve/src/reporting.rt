@@ -4,6 +4,7 @@ ghost use Rattle.receipt_types.specs.Limits.{AllSealLimits};
 ghost use Rattle.check_core.specs.Reports.{report_of};
 ghost use Rattle.resolve.specs.Resolving.{bundles_of, IsResolved};
 ghost use Rattle.resolve.specs.Parts as plain;
+ghost use Rattle.receipt_types.specs.declared.sizes.TheConstants.{MOST_ENTRIES, MOST_SEALS};
 
 use crate::entries::raised_links;
 use byte_cursor::ByteList;
@@ -22,7 +23,7 @@ pub fn resolved_report<D: Digester>(
     others: &[Checked<D>],
 ) -> Result<Report, AllocError>
     requires resolved { IsResolved D.digest_of joined.now (bundles_of others.now) bundle.now }
-    requires few { length joined.now.seals ≤ 65535 }
+    requires few { length joined.now.seals ≤ MOST_SEALS }
     requires limits { AllSealLimits joined.now.seals }
     ensures { IfOk result (λ report. report_of D.digest_of bundle.now ≡ Some report) }
 {
@@ -45,8 +46,8 @@ fn add_reports(
     entries: &mut ClaimList,
     reports: &[EntryClaim],
 ) -> Result<(), AllocError>
-    requires few { length entries.old.items ≤ 256 }
-    requires links { All (λ report. All (λ link. link < 256) report.links) reports.now }
+    requires few { length entries.old.items ≤ MOST_ENTRIES }
+    requires links { All (λ report. All (λ link. link < MOST_ENTRIES) report.links) reports.now }
     ensures { OnOk result (entries.new.items ≡ entries.old.items ++ map (plain.raised_report (length entries.old.items)) reports.now) }
 {
     let first = entries.len() as u16;

@@ -3,7 +3,8 @@ ghost use Rattle.claim_types.specs.declared.claim.Exit.TheVariants.{Halted as Ha
 ghost use Rattle.claim_types.specs.States.{state_digest};
 ghost use Rattle.receipt_types.specs.Limits.{AllSealLimits, KeepsLimits};
 ghost use Rattle.check_core.specs.Judgement.{Accepts};
-ghost use Rattle.resolve.specs.Resolving.{bundles_of, IsResolved, Stops};
+ghost use Rattle.resolve.specs.Resolving.{bundles_of, IsResolved, StopsResolve};
+ghost use Rattle.receipt_types.specs.declared.sizes.TheConstants.{MOST_LINKS, MOST_SEALS};
 
 use crate::entries::{add_bundle, first_entry};
 use crate::finding::{claims_of, find_links};
@@ -11,11 +12,8 @@ use crate::stop::ResolveStop;
 use check_core::Checked;
 use digest_core::Digester;
 use lift_join::Joined;
-use receipt_types::{Bundle, EntryList};
+use receipt_types::{Bundle, EntryList, MOST_ENTRIES};
 use std::alloc::Global;
-
-// The most entries of a receipt.
-const MOST_ENTRIES: usize = 256;
 
 /// The bundle of what is proved of a run that halts, which is a premise, and of other bundles: entry 0 has the proved seals,
 /// and each of its calls is linked to the first entry after it that has the claim digest which the call asks for; then come
@@ -32,13 +30,13 @@ pub fn resolve<D: Digester>(
     ensures bundle { IfOk result (λ bundle. IsResolved D.digest_of joined.now (bundles_of others.now) bundle) }
     ensures accepted { IfOk result (λ bundle. Accepts D.digest_of bundle (state_digest D.digest_of joined.now.claim.before)) }
     // It keeps the limits of a receipt, where what is proved does, as the others do.
-    ensures limits { IfOk result (λ bundle. AllSealLimits joined.now.seals → 0 < length joined.now.seals → length joined.now.seals ≤ 65535 → length joined.now.claim.calls ≤ 16777216 → KeepsLimits bundle) }
-    ensures stop { IfErr result (λ stop. Stops D.digest_of joined.now.claim.calls (bundles_of others.now) stop) }
+    ensures limits { IfOk result (λ bundle. AllSealLimits joined.now.seals → 0 < length joined.now.seals → length joined.now.seals ≤ MOST_SEALS → length joined.now.claim.calls ≤ MOST_LINKS → KeepsLimits bundle) }
+    ensures stop { IfErr result (λ stop. StopsResolve D.digest_of joined.now.claim.calls (bundles_of others.now) stop) }
 {
     let claims = claims_of(alloc, others)?;
     let links = find_links::<D>(alloc, joined.claim().calls.as_slice(), claims.as_slice())?;
     let count = claims.len() + 1;
-    if count > MOST_ENTRIES {
+    if count > MOST_ENTRIES as usize {
         return Err(ResolveStop::TooManyEntries {
             count: count as u64,
         });

@@ -4,7 +4,7 @@ use Rattle.rv_isa.specs.declared.instr.AluOp.{AluOp}
 use Rattle.rv_isa.specs.declared.instr.AluOp.TheVariants.{Add, Sll, Slt, Sltu, Xor, Srl, Sra, Or, And}
 use Rattle.rv_isa.specs.declared.instr.Instr.{Instr}
 use Rattle.rv_isa.specs.declared.instr.Instr.TheVariants.{Lui, Auipc, Jal, Jalr, Branch, Load, Store, AluImm, Alu, Fence, Ecall, Ebreak}
-use Rattle.rv_isa.specs.Words.{unsigned}
+use Rattle.rv_isa.specs.Words.{unsigned_of}
 
 -- the number of one of the 32 registers
 abbrev pub is_register : ℕ → Bool
@@ -16,7 +16,7 @@ in_signed half z = int_le (neg_ℤ (pos half)) z && int_lt z (pos half)
 
 -- a number whose word is even
 abbrev pub is_even : ℤ → Bool
-is_even z = eqb (unsigned z % 2) 0
+is_even z = eqb (unsigned_of z % 2) 0
 
 -- a word whose low 12 bits are zero
 abbrev pub is_upper : ℕ → Bool

@@ -4,3 +4,4 @@ pub mod Registers
 pub mod Rows
 pub mod Classes
 pub mod Encoding
+pub mod Text

@@ -1,14 +1,14 @@
 //! What operations and comparisons of words compute.
 ghost use Rattle.std.specs.Prelude.{◌≡◌, ◌*ℤ◌, ◌/◌, ◌^◌, pos};
 ghost use Rattle.std.specs.Int.{w64, cast_unsigned};
-ghost use Rattle.rv_isa.specs.Words.{signed};
+ghost use Rattle.rv_isa.specs.Words.{signed_of};
 ghost use Rattle.rv_isa.specs.Arithmetic.{alu_of, taken_of};
 
 use crate::instr::{AluOp, BranchOp};
 
 // The high word of a product of signed words.
 fn high_signed(a: u32, b: u32) -> u32
-    ensures { result ≡ cast_unsigned w64 (signed a *ℤ signed b) / 2 ^ 32 }
+    ensures { result ≡ cast_unsigned w64 (signed_of a *ℤ signed_of b) / 2 ^ 32 }
 {
     let product = i64::from(a.cast_signed()) * i64::from(b.cast_signed());
     (product.cast_unsigned() >> 32) as u32
@@ -16,7 +16,7 @@ fn high_signed(a: u32, b: u32) -> u32
 
 // The high word of a product of a signed word and an unsigned one.
 fn high_mixed(a: u32, b: u32) -> u32
-    ensures { result ≡ cast_unsigned w64 (signed a *ℤ pos b) / 2 ^ 32 }
+    ensures { result ≡ cast_unsigned w64 (signed_of a *ℤ pos b) / 2 ^ 32 }
 {
     let product = i64::from(a.cast_signed()) * i64::from(b);
     (product.cast_unsigned() >> 32) as u32

@@ -1,3 +1,8 @@
+ghost use Rattle.std.specs.Prelude.{Some};
+ghost use Rattle.rv_isa.specs.Text.{fault_text};
+
+use std::fmt;
+
 /// Why a step can't be done. A step that faults changes nothing.
 #[derive(Clone, Copy, Debug, PartialEq, Eq)]
 pub enum Fault {
@@ -18,4 +23,23 @@ pub enum Fault {
     BadArgs(u32),
     /// READ of more words than are left.
     InputEnd,
+}
+
+/// Words and addresses have eight lower-case hexadecimal digits, the numbers of calls are decimal.
+impl fmt::Display for Fault {
+    ghost output = { λ fault. Some (fault_text fault) };
+
+    #[tactic(auto, using(crate::proofs::HexWords::padded_hex_word))]
+    fn fmt<W: fmt::Write>(&self, f: &mut fmt::Formatter<W>) -> fmt::Result {
+        match *self {
+            Fault::Illegal(word) => write!(f, "illegal {word:08x}"),
+            Fault::BadAddress(address) => write!(f, "bad-address {address:08x}"),
+            Fault::Misaligned(address) => write!(f, "misaligned {address:08x}"),
+            Fault::BadTarget(address) => write!(f, "bad-target {address:08x}"),
+            Fault::Break => f.write_str("break"),
+            Fault::BadCall(number) => write!(f, "bad-call {number}"),
+            Fault::BadArgs(number) => write!(f, "bad-args {number}"),
+            Fault::InputEnd => f.write_str("input-end"),
+        }
+    }
 }

@@ -17,10 +17,10 @@ use Rattle.rv_isa.specs.Words.{plus}
 use Rattle.rv_isa.specs.Arithmetic.{taken_of}
 use Rattle.page_core.specs.Memory.{top, bytes, pages_from, pages_of}
 use Rattle.rv_isa.specs.Rows.{decode_of}
-use Rattle.host_calls.specs.Calls.{fits_below, within, checked, read_call_of, ranges_of, takes}
+use Rattle.host_calls.specs.Calls.{fits_below, within, call_or_fault, read_call_of, ranges_of, takes}
 use Rattle.rv_step.specs.declared.act.Act.TheVariants.{Sets, Loads, Stores, Does, Faults}
 use Rattle.rv_step.specs.declared.act.Act.{Act}
-use Rattle.rv_step.specs.Machine.{load_width, store_width, at_address, jump, call_act, act_of, act_of_word, supplied, act, pages_of_all}
+use Rattle.rv_step.specs.Machine.{load_width, store_width, at_address, jump, call_act, act_of, act_of_word, act_with_words, act, pages_of_all}
 use Rattle.rv_isa.specs.Registers.{register}
 use Rattle.rv_step.specs.Acts.{AllBelow, IsSound, ActsAreSound}
 
@@ -169,8 +169,8 @@ module _ (x : List ℕ) where
       cond_both (fits_below r.0 r.1) _ _ IsSoundCall (λ e. sound_within rs call (λ h. f (e, h))) (λ e. sound_fault _)
 
   sound_checked : (number : ℕ) (good : Bool) (call : Call) → (IsTrue good → AllBelow (ranges_of call) → IsSound x (Does call))
-      → IsSound x (call_act (checked number good call))
-  unfolding checked
+      → IsSound x (call_act (call_or_fault number good call))
+  unfolding call_or_fault
   sound_checked number good call f = cond_both good _ _ IsSoundCall (λ e. sound_within (ranges_of call) call (f e)) (λ e. sound_fault _)
 
   sound_call : IsSound x (call_act (read_call_of x))
@@ -215,7 +215,7 @@ sound_decoded : (o : Option Instr) (word pc : ℕ) (x : List ℕ) → pc % 4 ≡
 sound_decoded (Some i) word pc x h l = sound_act_of i pc x h l
 sound_decoded None word pc x h l = sound_fault x _
 
-sound_supplied : (left : ℕ) (x : List ℕ) (a : Act) → IsSound x a → IsSound x (supplied left a)
+sound_supplied : (left : ℕ) (x : List ℕ) (a : Act) → IsSound x a → IsSound x (act_with_words left a)
 sound_supplied left x (Does call) h = cond_both (leb (takes call) left) _ _ (IsSound x) (λ e. h) (λ e. sound_fault x _)
 sound_supplied left x a h = h
 

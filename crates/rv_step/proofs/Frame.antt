@@ -9,11 +9,11 @@ use Rattle.std.proofs.lemmas.Bool.Decides.{nat_tests, leb_tells}
 use Rattle.rv_isa.specs.declared.fault.Fault.TheVariants.{InputEnd, BadAddress}
 use Rattle.host_calls.specs.declared.call.Call.{Call}
 use Rattle.host_calls.specs.declared.call.Call.TheVariants.{Halt, Read, Commit, Assume}
-use Rattle.page_core.specs.Memory.{top, bytes, put, pages_from, pages_of, Within, Agree}
+use Rattle.page_core.specs.Memory.{top, bytes, put, pages_from, pages_of, Within, AgreeOn}
 use Rattle.host_calls.specs.Calls.{fits_below, ranges_of, takes}
 use Rattle.rv_step.specs.declared.act.Act.TheVariants.{Sets, Loads, Stores, Does, Faults}
 use Rattle.rv_step.specs.declared.act.Act.{Act}
-use Rattle.rv_step.specs.Machine.{data_of, State, Faulted, load_width, loaded, act_of_word, supplied, act, pages_of_all, called, done, step_of, foot_at, foot_of, step_cost, cost_of_act, full_of}
+use Rattle.rv_step.specs.Machine.{data_of, State, Faulted, load_width, loaded_word, act_of_word, act_with_words, act, pages_of_all, call_event, act_event, step_of, foot_at, foot_of, step_cost, cost_of_act, full_of}
 use Rattle.rv_isa.specs.Registers.{with_register}
 use Rattle.rv_step.specs.Laws.{Beside, Alike, AlikeEvents, StepReadsItsFoot}
 use Rattle.page_core.proofs.Bytes.{put-same}
@@ -52,8 +52,8 @@ module _ (pages : List ℕ) (more : Beside) (s t : State) (same : Alike pages mo
       → ((a : ℕ) → s.memory a ≡ t.memory a → u.memory a ≡ v.memory a)
       → Alike pages more u v
   alike_after u v size ep ex ew ej ec em =
-      let start : Agree pages (full_of s.memory s.x) (full_of t.memory s.x) =
-      subst (λ (x : List ℕ). Agree pages (full_of s.memory s.x) (full_of t.memory x)) same.x same.memory in
+      let start : AgreeOn pages (full_of s.memory s.x) (full_of t.memory s.x) =
+      subst (λ (x : List ℕ). AgreeOn pages (full_of s.memory s.x) (full_of t.memory x)) same.x same.memory in
       record {
         pc = ep;
         x = ex;
@@ -61,7 +61,7 @@ module _ (pages : List ℕ) (more : Beside) (s t : State) (same : Alike pages mo
         journal = ej;
         calls = ec;
         memory =
-            subst (λ (x : List ℕ). Agree pages (full_of u.memory u.x) (full_of v.memory x)) (sym ex)
+            subst (λ (x : List ℕ). AgreeOn pages (full_of u.memory u.x) (full_of v.memory x)) (sym ex)
             (agree-after pages s.memory t.memory u.memory v.memory s.x u.x size start em);
       }
 
@@ -72,8 +72,8 @@ module _ (pages : List ℕ) (more : Beside) (s t : State) (same : Alike pages mo
   x_with rd v w e = ap₂ (λ x n. with_register x rd n) same.x (sym e)
 
   call_alike : (call : Call) → AllBelow (ranges_of call) → Within (pages_of_all (ranges_of call)) pages → takes call ≤ length s.words
-      → AlikeEvents pages more (called call s) (called call t)
-  unfolding called pages_of_all
+      → AlikeEvents pages more (call_event call s) (call_event call t)
+  unfolding call_event pages_of_all
   call_alike (Halt code) ok shown has = refl
   call_alike (Read pointer count) ok shown has =
       let words_same : take count t.words ≡ take count s.words =
@@ -101,32 +101,32 @@ module _ (pages : List ℕ) (more : Beside) (s t : State) (same : Alike pages mo
       (λ a e. e)
 
   done_alike : (a : Act) → AllBelow (data_of a) → Within (pages_of_all (data_of a)) pages → IsSupplied (length s.words) a
-      → AlikeEvents pages more (done a s) (done a t)
-  unfolding done pages_of_all
+      → AlikeEvents pages more (act_event a s) (act_event a t)
+  unfolding act_event pages_of_all
   done_alike (Sets pc rd v) ok shown has =
       alike_after _ _ (length-with_register s.x rd v) refl (x_with rd v v refl) same.words same.journal same.calls (λ a e. e)
   done_alike (Loads op rd a) ok shown has =
       let read : bytes s.memory a (byte_len (load_width op)) ≡ bytes t.memory a (byte_len (load_width op)) =
       range_same a (byte_len (load_width op)) ok.0 (λ p h. shown p (Contains-append_left (pages_of a (byte_len (load_width op))) [] p h)) in
       alike_after _ _ (length-with_register s.x rd _) pc_next
-      (x_with rd _ _ (ap (λ bs. loaded op (from_le_bytes (load_width op) bs)) read)) same.words same.journal same.calls (λ a e. e)
+      (x_with rd _ _ (ap (λ bs. loaded_word op (from_le_bytes (load_width op) bs)) read)) same.words same.journal same.calls (λ a e. e)
   done_alike (Stores op a v) ok shown has =
       alike_after _ _ refl pc_next same.x same.words same.journal same.calls (put-same s.memory t.memory a _)
   done_alike (Does call) ok shown has = call_alike call ok shown has
   done_alike (Faults f) ok shown has = refl
 
 -- ---- the two states have the same act
-supplied_same : (k l : ℕ) (a : Act) → k ≤ l → (supplied k a ≡ Faults InputEnd → l ≡ k) → supplied l a ≡ supplied k a
+supplied_same : (k l : ℕ) (a : Act) → k ≤ l → (act_with_words k a ≡ Faults InputEnd → l ≡ k) → act_with_words l a ≡ act_with_words k a
 supplied_same k l (Sets pc rd v) h f = refl
 supplied_same k l (Loads op rd a) h f = refl
 supplied_same k l (Stores op a v) h f = refl
 supplied_same k l (Does call) h f =
     ⊎_elim (λ p. let e : leb (takes call) l ≡ true = grind (arith, nat_tests, p.1) in rw (e, p.0) refl)
-    (λ p. ap (λ n. supplied n (Does call)) (f (rw p.0 refl)))
+    (λ p. ap (λ n. act_with_words n (Does call)) (f (rw p.0 refl)))
     (leb_tells (takes call) k)
 supplied_same k l (Faults f) h g = refl
 
-supplied_is : (left : ℕ) (a : Act) → IsSupplied left (supplied left a)
+supplied_is : (left : ℕ) (a : Act) → IsSupplied left (act_with_words left a)
 supplied_is left (Sets pc rd v) = tt
 supplied_is left (Loads op rd a) = tt
 supplied_is left (Stores op a v) = tt
@@ -141,7 +141,7 @@ pub supplied_act : (s : State) → IsSupplied (length s.words) (act s)
 unfolding act
 supplied_act s = go (leb top s.pc)
   where
-    go : (b : Bool) → IsSupplied (length s.words) (cond b (Faults (BadAddress s.pc)) (supplied (length s.words) (act_of_word (from_le_bytes w32 (bytes s.memory s.pc 4)) s.pc s.x)))
+    go : (b : Bool) → IsSupplied (length s.words) (cond b (Faults (BadAddress s.pc)) (act_with_words (length s.words) (act_of_word (from_le_bytes w32 (bytes s.memory s.pc 4)) s.pc s.x)))
     go true = tt
     go false = supplied_is (length s.words) _
 
@@ -158,7 +158,7 @@ unfolding act
 act_out s e = rw e refl
 
 pub act_in : (s : State) → leb top s.pc ≡ false
-    → act s ≡ supplied (length s.words) (act_of_word (from_le_bytes w32 (bytes s.memory s.pc 4)) s.pc s.x)
+    → act s ≡ act_with_words (length s.words) (act_of_word (from_le_bytes w32 (bytes s.memory s.pc 4)) s.pc s.x)
 unfolding act
 act_in s e = rw e refl
 
@@ -184,14 +184,14 @@ module _ (pages : List ℕ) (more : Beside) (s t : State) (aligned : s.pc % 4 �
           ap₂ (λ p x. act_of_word (from_le_bytes w32 (bytes t.memory p 4)) p x) same.pc same.x
           ∙ ap (λ bs. act_of_word (from_le_bytes w32 bs) s.pc s.x) (fetch_same h) in
           act_in t (ap (leb top) same.pc ∙ e)
-          ∙ ap (supplied (length t.words)) decoded
+          ∙ ap (act_with_words (length t.words)) decoded
           ∙ supplied_same (length s.words) (length t.words) (act_of_word (from_le_bytes w32 (bytes s.memory s.pc 4)) s.pc s.x) (omega (arith, left))
           (λ f. left ∙ ap (λ ws. length s.words + length ws) (ends (act_in s e ∙ f)) ∙ (omega arith))
           ∙ sym (act_in s e)
 
 ended : (s : State) → act s ≡ Faults InputEnd → step_of s ≡ Faulted InputEnd
-unfolding step_of done
-ended s e = ap (λ a. done a s) e
+unfolding step_of act_event
+ended s e = ap (λ a. act_event a s) e
 
 pub foot_same : (s t : State) → t.pc ≡ s.pc → act t ≡ act s → foot_of t ≡ foot_of s
 unfolding foot_of
@@ -202,10 +202,10 @@ cost_same : (s t : State) → act t ≡ act s → step_cost t ≡ step_cost s
 unfolding step_cost
 cost_same s t e = ap cost_of_act e
 
-events : (pages : List ℕ) (more : Beside) (s t : State) → act t ≡ act s → AlikeEvents pages more (done (act s) s) (done (act s) t)
+events : (pages : List ℕ) (more : Beside) (s t : State) → act t ≡ act s → AlikeEvents pages more (act_event (act s) s) (act_event (act s) t)
     → AlikeEvents pages more (step_of s) (step_of t)
 unfolding step_of
-events pages more s t e h = subst (λ (a : Act). AlikeEvents pages more (done (act s) s) (done a t)) (sym e) h
+events pages more s t e h = subst (λ (a : Act). AlikeEvents pages more (act_event (act s) s) (act_event a t)) (sym e) h
 
 pub step_reads_its_foot : StepReadsItsFoot
 step_reads_its_foot pages more s t aligned same shown ends =

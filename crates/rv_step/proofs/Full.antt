@@ -2,7 +2,7 @@
 use Rattle.std.proofs.Common.{◌≡◌, ℕ, zero, suc, ◌+◌, ◌-◌, ◌/◌, ◌<◌, ◌≤◌, Bool, true, false, cond, ◌&&◌, leb, ltb, List, length, get_or, drop, refl, sym, ◌∙◌, arith, inl, length-drop, length-set}
 use Rattle.std.specs.Int.{w32, to_le_bytes}
 use Rattle.std.specs.List.{flat_map}
-use Rattle.page_core.specs.Memory.{top, bytes, put, pages_of, Within, Agree}
+use Rattle.page_core.specs.Memory.{top, bytes, put, pages_of, Within, AgreeOn}
 use Rattle.rv_isa.specs.Registers.{with_register}
 use Rattle.rv_step.specs.Machine.{full_of}
 use Rattle.page_core.proofs.Bytes.{bytes-same, put-outside, in_pages_of, length-words}
@@ -11,7 +11,7 @@ pub full-below : (m : ℕ → ℕ) (x : List ℕ) (k : ℕ) → k < top → full
 unfolding full_of
 full-below m x k h = put-outside m (top + 4) (flat_map (to_le_bytes w32) (drop 1 x)) k (inl (omega arith))
 
-pub bytes-agree : (pages : List ℕ) (m n : ℕ → ℕ) (x y : List ℕ) → Agree pages (full_of m x) (full_of n y)
+pub bytes-agree : (pages : List ℕ) (m n : ℕ → ℕ) (x y : List ℕ) → AgreeOn pages (full_of m x) (full_of n y)
     → (a k : ℕ) → a + k ≤ top → Within (pages_of a k) pages → bytes m a k ≡ bytes n a k
 bytes-agree pages m n x y same a k fits within =
     bytes-same m n a k
@@ -26,8 +26,8 @@ length-with_register x zero v = refl
 length-with_register x (suc n) v = length-set x (suc n) _
 
 -- what a step changes in both memories alike leaves them in agreement
-pub agree-after : (pages : List ℕ) (m n p q : ℕ → ℕ) (x y : List ℕ) → length y ≡ length x → Agree pages (full_of m x) (full_of n x)
-    → ((a : ℕ) → m a ≡ n a → p a ≡ q a) → Agree pages (full_of p y) (full_of q y)
+pub agree-after : (pages : List ℕ) (m n p q : ℕ → ℕ) (x y : List ℕ) → length y ≡ length x → AgreeOn pages (full_of m x) (full_of n x)
+    → ((a : ℕ) → m a ≡ n a → p a ≡ q a) → AgreeOn pages (full_of p y) (full_of q y)
 unfolding full_of put
 agree-after pages m n p q x y size same step =
     let sizes : length (flat_map (to_le_bytes w32) (drop 1 y)) ≡ length (flat_map (to_le_bytes w32) (drop 1 x)) =

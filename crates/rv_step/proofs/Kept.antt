@@ -13,7 +13,7 @@ use Rattle.page_core.specs.Memory.{top, bytes, put, pages_of, Within}
 use Rattle.host_calls.specs.Calls.{ranges_of}
 use Rattle.rv_step.specs.declared.act.Act.TheVariants.{Sets, Loads, Stores, Does, Faults}
 use Rattle.rv_step.specs.declared.act.Act.{Act}
-use Rattle.rv_step.specs.Machine.{data_of, State, Event, Went, Halted, Faulted, store_width, act, pages_of_all, next, called, done, step_of, foot_of}
+use Rattle.rv_step.specs.Machine.{data_of, State, Event, Went, Halted, Faulted, store_width, act, pages_of_all, next, call_event, act_event, step_of, foot_of}
 use Rattle.rv_isa.specs.Registers.{with_register, AreRegisters}
 use Rattle.rv_step.specs.Laws.{IsReady}
 use Rattle.rv_step.specs.Acts.{IsSound, IsMade, Keeps, StepKeeps, StepHaltsWithWord}
@@ -77,8 +77,8 @@ module _ (s : State) (below : s.pc < top) where
     made = λ h. record { memory = (made h).memory; journal = (made h).journal; calls = (made h).calls };
   }
 
-  called_leaves : (call : Call) → (s.pc % 4 ≡ 0 → IsSound s.x (Does call)) → Within (pages_of_all (ranges_of call)) (foot_of s) → Leaves s (called call s)
-  unfolding called pages_of_all
+  called_leaves : (call : Call) → (s.pc % 4 ≡ 0 → IsSound s.x (Does call)) → Within (pages_of_all (ranges_of call)) (foot_of s) → Leaves s (call_event call s)
+  unfolding call_event pages_of_all
   called_leaves (Halt code) sound shown = λ h. (sound h.aligned).exit (h.registers.are_words 10)
   called_leaves (Read pointer count) sound shown =
       keeps_next _ 10 count refl refl
@@ -104,8 +104,8 @@ module _ (s : State) (below : s.pc < top) where
         calls = AreCalls-append s.calls _ h.calls ((digest_read s.memory image h.memory, digest_read s.memory journal h.memory), tt);
       })
 
-  done_leaves : (a : Act) → (s.pc % 4 ≡ 0 → IsSound s.x a) → Within (pages_of_all (data_of a)) (foot_of s) → Leaves s (done a s)
-  unfolding done pages_of_all
+  done_leaves : (a : Act) → (s.pc % 4 ≡ 0 → IsSound s.x a) → Within (pages_of_all (data_of a)) (foot_of s) → Leaves s (act_event a s)
+  unfolding act_event pages_of_all
   done_leaves (Sets pc rd v) sound shown = record {
     outside = λ k h. refl;
     ready = λ h. record {
@@ -128,8 +128,8 @@ module _ (s : State) (below : s.pc < top) where
   done_leaves (Faults f) sound shown = tt
 
 -- ---- a step
-out_leaves : (s : State) (a : Act) → a ≡ Faults (BadAddress s.pc) → Leaves s (done a s)
-unfolding done
+out_leaves : (s : State) (a : Act) → a ≡ Faults (BadAddress s.pc) → Leaves s (act_event a s)
+unfolding act_event
 out_leaves s a e = rw e tt
 
 step_leaves : (s : State) → Leaves s (step_of s)

@@ -10,8 +10,8 @@ use Rattle.host_calls.specs.Foots.{with_data, with_pages}
 use Rattle.page_core.specs.Memory.{top, bytes, pages_from, pages_of, place, ascending, without}
 use Rattle.rv_step.specs.declared.act.Act.{Act}
 use Rattle.rv_step.specs.declared.act.Act.TheVariants.{Sets, Loads, Stores, Does, Faults}
-use Rattle.rv_step.specs.Machine.{data_of, State, act_of_word, supplied, act, done, called, pages_of_all, foot_at, foot_of, step_of, step_cost, cost_of_act, first_closed}
-use Rattle.rv_step.specs.Stepping.{fetch_foot, unless_closed, fetched, looked_of, act_fault, fault_in}
+use Rattle.rv_step.specs.Machine.{data_of, State, act_of_word, act_with_words, act, act_event, call_event, pages_of_all, foot_at, foot_of, step_of, step_cost, cost_of_act, first_closed}
+use Rattle.rv_step.specs.Stepping.{fetch_foot, unless_closed, fetched_act, looked_of, act_fault, fault_in}
 use Rattle.rv_step.specs.declared.looking.Looked.{Looked}
 use Rattle.rv_step.specs.Acts.{IsSound}
 use Rattle.rv_step.proofs.Acts.{acts_are_sound}
@@ -109,27 +109,27 @@ pub out : (s : State) → top ≤ s.pc → act s ≡ Faults (BadAddress s.pc)
 out s l = act_out s (grind (arith, nat_tests))
 
 -- a fetch out of range faults
-pub fetched_out : (opens : ℕ → Bool) (s : State) → opens 262143 ≡ true → top ≤ s.pc → Ok (Faults (BadAddress s.pc)) ≡ fetched opens s
+pub fetched_out : (opens : ℕ → Bool) (s : State) → opens 262143 ≡ true → top ≤ s.pc → Ok (Faults (BadAddress s.pc)) ≡ fetched_act opens s
 fetched_out opens s h l = ap Ok (sym (out s l)) ∙ ap (λ o. unless_closed o (act s)) (sym (fetch_open opens s h l))
 
 -- a fetch in range of open pages
 pub fetched_in : (opens : ℕ → Bool) (s : State) (w : ℕ) (a b : Act) → opens 262143 ≡ true → s.pc < top → opens (s.pc / 1024) ≡ true
-    → w ≡ from_le_bytes w32 (bytes s.memory s.pc 4) → a ≡ act_of_word w s.pc s.x → b ≡ supplied (length s.words) a → Ok b ≡ fetched opens s
+    → w ≡ from_le_bytes w32 (bytes s.memory s.pc 4) → a ≡ act_of_word w s.pc s.x → b ≡ act_with_words (length s.words) a → Ok b ≡ fetched_act opens s
 fetched_in opens s w a b h l k word decoded given =
     let same : b ≡ act s =
-    given ∙ ap (supplied (length s.words)) (decoded ∙ ap (λ n. act_of_word n s.pc s.x) word) ∙ sym (act_in s (grind (arith, nat_tests))) in
+    given ∙ ap (act_with_words (length s.words)) (decoded ∙ ap (λ n. act_of_word n s.pc s.x) word) ∙ sym (act_in s (grind (arith, nat_tests))) in
     ap Ok same ∙ ap (λ o. unless_closed o (act s)) (sym (code_open opens s h l k))
 
 -- ---- looking
-called_fault : (call : Call) (s : State) → fault_in (called call s) ≡ None
-unfolding called
+called_fault : (call : Call) (s : State) → fault_in (call_event call s) ≡ None
+unfolding call_event
 called_fault (Halt code) s = refl
 called_fault (Read pointer count) s = refl
 called_fault (Commit pointer count) s = refl
 called_fault (Assume image journal) s = refl
 
-done_fault : (a : Act) (s : State) → fault_in (done a s) ≡ act_fault a
-unfolding done
+done_fault : (a : Act) (s : State) → fault_in (act_event a s) ≡ act_fault a
+unfolding act_event
 done_fault (Sets pc rd v) s = refl
 done_fault (Loads op rd a) s = refl
 done_fault (Stores op a v) s = refl
@@ -157,7 +157,7 @@ ok_same : {A : Type 0} (a b : A) → ◌≡◌ {A = Result A ℕ} (Ok a) (Ok b) 
 ok_same a b e = cc
 
 -- a page that the fetch misses is missed
-pub missed : (opens : ℕ → Bool) (s : State) (page : ℕ) → Err page ≡ fetched opens s → first_closed opens (fetch_foot s) ≡ Some page
+pub missed : (opens : ℕ → Bool) (s : State) (page : ℕ) → Err page ≡ fetched_act opens s → first_closed opens (fetch_foot s) ≡ Some page
 missed opens s page h = go (first_closed opens (fetch_foot s)) h
   where
     go : (o : Option ℕ) → Err page ≡ unless_closed o (act s) → o ≡ Some page
@@ -165,23 +165,23 @@ missed opens s page h = go (first_closed opens (fetch_foot s)) h
     go None e = absurd (no_err page (act s) e)
 
 -- and an act that is told is the step's, and the pages of its fetch are open
-pub told : (opens : ℕ → Bool) (s : State) (a : Act) → Ok a ≡ fetched opens s → (a ≡ act s) × (first_closed opens (fetch_foot s) ≡ None)
+pub told : (opens : ℕ → Bool) (s : State) (a : Act) → Ok a ≡ fetched_act opens s → (a ≡ act s) × (first_closed opens (fetch_foot s) ≡ None)
 told opens s a h = go (first_closed opens (fetch_foot s)) h
   where
     go : (o : Option ℕ) → Ok a ≡ unless_closed o (act s) → (a ≡ act s) × (o ≡ None)
     go (Some q) e = absurd (no_err q a (sym e))
     go None e = (ok_same a (act s) e, refl)
 
-pub looked_missed : (opens : ℕ → Bool) (s : State) (page : ℕ) → Err page ≡ fetched opens s → Err page ≡ looked_of opens s
+pub looked_missed : (opens : ℕ → Bool) (s : State) (page : ℕ) → Err page ≡ fetched_act opens s → Err page ≡ looked_of opens s
 looked_missed opens s page h = sym (ap (λ o. unless_closed o (record { foot = foot_of s; cost = step_cost s; fault = fault_in (step_of s) })) (missed opens s page h))
 
-pub looked_told : (opens : ℕ → Bool) (s : State) (a : Act) → Ok a ≡ fetched opens s → Ok (look_at s.pc a) ≡ looked_of opens s
+pub looked_told : (opens : ℕ → Bool) (s : State) (a : Act) → Ok a ≡ fetched_act opens s → Ok (look_at s.pc a) ≡ looked_of opens s
 looked_told opens s a h =
     let t = told opens s a h in
     ap (λ (b : Act). Ok (look_at s.pc b)) t.0 ∙ ap Ok (sym (looks_at s))
     ∙ sym (ap (λ o. unless_closed o (record { foot = foot_of s; cost = step_cost s; fault = fault_in (step_of s) })) t.1)
 
-pub sound_told : (opens : ℕ → Bool) (s : State) (a : Act) → s.pc % 4 ≡ 0 → Ok a ≡ fetched opens s → IsSound s.x a
+pub sound_told : (opens : ℕ → Bool) (s : State) (a : Act) → s.pc % 4 ≡ 0 → Ok a ≡ fetched_act opens s → IsSound s.x a
 sound_told opens s a aligned h = subst (λ (b : Act). IsSound s.x b) (sym (told opens s a h).0) (acts_are_sound s aligned)
 
 -- what was looked at, where the pages of the fetch are open

@@ -3,7 +3,7 @@ use Rattle.std.proofs.Common.{◌≡◌, ℕ, zero, suc, ◌+◌, List, refl, sy
 use Rattle.std.proofs.lemmas.Option.{same_Some, none-some}
 use Rattle.rv_isa.specs.declared.fault.Fault.{Fault}
 use Rattle.rv_step.specs.Machine.{State, Event, Went, Halted, Faulted, step_of, step_cost}
-use Rattle.rv_step.specs.Runs.{after, spent, state_gone, at_some}
+use Rattle.rv_step.specs.Runs.{after, run_cost, state_gone, at_some}
 use Rattle.rv_step.specs.Laws.{IsReady, Beside, Alike, AlikeEvents, RunReadsItsFeet}
 use Rattle.rv_step.proofs.Frame.{step_reads_its_foot}
 use Rattle.rv_step.proofs.Kept.{step_keeps}
@@ -48,12 +48,12 @@ like_halted pages more c (Went t) h = absurd h
 like_halted pages more c (Halted d) h = ap Halted h
 like_halted pages more c (Faulted f) h = absurd h
 
-pub spent_next : (s : State) (n : ℕ) (t : State) → after s n ≡ Some t → spent s (suc n) ≡ spent s n + step_cost t
-unfolding spent
-spent_next s n t h = ap (λ o. spent s n + at_some step_cost o) h
+pub spent_next : (s : State) (n : ℕ) (t : State) → after s n ≡ Some t → run_cost s (suc n) ≡ run_cost s n + step_cost t
+unfolding run_cost
+spent_next s n t h = ap (λ o. run_cost s n + at_some step_cost o) h
 
 pub run_reads_its_feet : RunReadsItsFeet
-unfolding after spent
+unfolding after run_cost
 run_reads_its_feet pages more s r zero t ready same h feet =
     let e : s ≡ t = same_Some s t h in
     (r, refl, subst (λ (u : State). Alike pages more u r) e same, refl, subst (λ (u : State). IsReady u) e ready)

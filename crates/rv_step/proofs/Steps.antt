@@ -15,13 +15,13 @@ use Rattle.host_calls.specs.declared.call.Call.{Call}
 use Rattle.page_core.specs.Memory.{top, pages_of, ascending, without}
 use Rattle.rv_step.specs.declared.act.Act.{Act}
 use Rattle.rv_step.specs.declared.act.Act.TheVariants.{Sets, Does, Faults}
-use Rattle.rv_step.specs.Machine.{data_of, State, Event, Went, Faulted, load_width, store_width, act, done, called, pages_of_all, foot_at, foot_of, cost_of_act, step_of, step_cost, first_closed}
+use Rattle.rv_step.specs.Machine.{data_of, State, Event, Went, Faulted, load_width, store_width, act, act_event, call_event, pages_of_all, foot_at, foot_of, cost_of_act, step_of, step_cost, first_closed}
 use Rattle.rv_isa.specs.Registers.{with_register}
 use Rattle.rv_step.specs.declared.stepping.Event.{Event as StepEvent}
 use Rattle.rv_step.specs.declared.stepping.Event.TheVariants as E
 use Rattle.rv_step.specs.declared.stepping.StepStop.{StepStop}
 use Rattle.rv_step.specs.declared.stepping.StepStop.TheVariants as S
-use Rattle.rv_step.specs.Stepping.{fetch_foot, Opens, AllOpen, IsNext, Answers, IsStepOf, IsPaidStepOf, fetched, act_fault}
+use Rattle.rv_step.specs.Stepping.{fetch_foot, Opens, AllOpen, IsNext, AnswersEvent, IsStepOf, IsPaidStepOf, fetched_act, act_fault}
 use Rattle.rv_step.specs.Acts.{IsSound}
 use Rattle.rv_step.proofs.Acts.{acts_are_sound}
 use Rattle.rv_step.proofs.Frame.{IsSupplied, supplied_act}
@@ -103,18 +103,18 @@ ranges_open opens (r ∷ rs) h = (
   ranges_open opens rs (λ p m. h p (Contains-append_right (pages_of r.0 r.1) (pages_of_all rs) p m)),
 )
 
-pub missed_first : (opens : ℕ → Bool) (s : State) (page : ℕ) → Err page ≡ fetched opens s → first_closed opens (foot_of s) ≡ Some page
+pub missed_first : (opens : ℕ → Bool) (s : State) (page : ℕ) → Err page ≡ fetched_act opens s → first_closed opens (foot_of s) ≡ Some page
 missed_first opens s page h = first_in_fetch opens s page (missed opens s page h)
 
 -- an act that was told, and whose footprint has no closed page, is next
-pub is_next : (opens : ℕ → Bool) (s : State) (a : Act) (foot pages : List ℕ) → Ok a ≡ fetched opens s → foot ≡ foot_at s.pc a → pages ≡ foot
+pub is_next : (opens : ℕ → Bool) (s : State) (a : Act) (foot pages : List ℕ) → Ok a ≡ fetched_act opens s → foot ≡ foot_at s.pc a → pages ≡ foot
     → None ≡ first_closed opens pages → IsNext opens s a
 unfolding foot_of
 is_next opens s a foot pages is made listed none =
     let same : a ≡ act s = (told opens s a is).0 in
     record { is = same; no_closed = sym (none ∙ ap (first_closed opens) (listed ∙ made ∙ ap (foot_at s.pc) same)) }
 
-pub is_missed : (opens : ℕ → Bool) (s : State) (a : Act) (foot pages : List ℕ) (page : ℕ) → Ok a ≡ fetched opens s → foot ≡ foot_at s.pc a → pages ≡ foot
+pub is_missed : (opens : ℕ → Bool) (s : State) (a : Act) (foot pages : List ℕ) (page : ℕ) → Ok a ≡ fetched_act opens s → foot ≡ foot_at s.pc a → pages ≡ foot
     → Some page ≡ first_closed opens pages → first_closed opens (foot_of s) ≡ Some page
 unfolding foot_of
 is_missed opens s a foot pages page is made listed some =
@@ -131,9 +131,9 @@ module _ (opens : ℕ → Bool) (s : State) (a : Act) (next : IsNext opens s a) 
   pub next_supplied : IsSupplied (length s.words) a
   next_supplied = subst (λ (b : Act). IsSupplied (length s.words) b) (sym next.is) (supplied_act s)
 
-  pub next_step : step_of s ≡ done a s
+  pub next_step : step_of s ≡ act_event a s
   unfolding step_of
-  next_step = ap (λ b. done b s) (sym next.is)
+  next_step = ap (λ b. act_event b s) (sym next.is)
 
   -- what it costs is what the step costs
   pub next_cost : cost_of_act a ≡ step_cost s
@@ -151,25 +151,25 @@ pub next_as : (opens : ℕ → Bool) (s : State) (a b : Act) → a ≡ b → IsN
 next_as opens s a b e next = subst (λ (c : Act). IsNext opens s c) e next
 
 -- what a step that goes on or halts tells
-pub step_answers : (opens : ℕ → Bool) (s : State) (a : Act) (event : Event) → IsNext opens s a → done a s ≡ event
+pub step_answers : (opens : ℕ → Bool) (s : State) (a : Act) (event : Event) → IsNext opens s a → act_event a s ≡ event
     → (first_closed opens (foot_of s) ≡ None) × (step_of s ≡ event)
 step_answers opens s a event next h = (next.no_closed, next_step opens s a next ∙ h)
 
-pub call_done : (call : Call) (s : State) → done (Does call) s ≡ called call s
-unfolding done
+pub call_done : (call : Call) (s : State) → act_event (Does call) s ≡ call_event call s
+unfolding act_event
 call_done call s = refl
 
-pub sets_done : (pc rd v : ℕ) (s : State) → done (Sets pc rd v) s ≡ Went (record s { pc = pc; x = with_register s.x rd v })
-unfolding done
+pub sets_done : (pc rd v : ℕ) (s : State) → act_event (Sets pc rd v) s ≡ Went (record s { pc = pc; x = with_register s.x rd v })
+unfolding act_event
 sets_done pc rd v s = refl
 
-pub fault_done : (f : Fault) (s : State) → done (Faults f) s ≡ Faulted f
-unfolding done
+pub fault_done : (f : Fault) (s : State) → act_event (Faults f) s ≡ Faulted f
+unfolding act_event
 fault_done f s = refl
 
 -- the answer of a call, as the step's
 pub call_answers : (opens : ℕ → Bool) (s t : State) (call : Call) (answer : Result StepEvent StepStop) → IsNext opens s (Does call)
-    → Answers (called call s) s t answer → IsStepOf opens s t answer
+    → AnswersEvent (call_event call s) s t answer → IsStepOf opens s t answer
 call_answers opens s t call (Ok E.Went) next h = step_answers opens s (Does call) _ next (call_done call s ∙ h)
 call_answers opens s t call (Ok (E.Halted code)) next h =
     let (none, is) = step_answers opens s (Does call) _ next (call_done call s ∙ h.0) in (none, (is, h.1))

@@ -28,10 +28,10 @@ HaltsWithWord (Does (Halt code)) = code < 2 ^ 32
 HaltsWithWord a = Unit {0}
 
 -- a call takes at most 256 words, or 1,024 bytes
-abbrev pub KeepsLimits : Act → Type 0
-KeepsLimits (Does (Read pointer count)) = count ≤ 256
-KeepsLimits (Does (Commit pointer count)) = count ≤ 1024
-KeepsLimits a = Unit {0}
+abbrev pub IsShortCall : Act → Type 0
+IsShortCall (Does (Read pointer count)) = count ≤ 256
+IsShortCall (Does (Commit pointer count)) = count ≤ 1024
+IsShortCall a = Unit {0}
 
 -- words are read and written at multiples of 4, halfwords at even addresses
 abbrev pub IsAligned : Act → Type 0
@@ -47,7 +47,7 @@ pub record IsSound (x : List ℕ) (a : Act) : Type 0 where
   pub aligned : IsAligned a
   pub goes : GoesAligned a
   pub exit : register x 10 < 2 ^ 32 → HaltsWithWord a
-  pub limits : KeepsLimits a
+  pub limits : IsShortCall a
   pub cost : cost_of_act a ≤ 257
   pub pages : length (pages_of_all (data_of a)) ≤ 4
 

@@ -1,10 +1,10 @@
 -- Laws of a step and of a run: what they read, and how a run halts.
 use Rattle.std.specs.Prelude.{◌≡◌, ℕ, ◌%◌, ◌^◌, ◌<◌, List, [], ◌++◌, Some}
 use Rattle.rv_isa.specs.declared.fault.Fault.TheVariants.{InputEnd}
-use Rattle.page_core.specs.Memory.{Within, Agree}
+use Rattle.page_core.specs.Memory.{Within, AgreeOn}
 use Rattle.host_calls.specs.declared.call.AssumeCall.{AssumeCall}
 use Rattle.rv_step.specs.Machine.{State, Event, Went, Halted, Faulted, full, step_of, foot_of, step_cost}
-use Rattle.rv_step.specs.Runs.{after, spent}
+use Rattle.rv_step.specs.Runs.{after, run_cost}
 use Rattle.rv_isa.specs.Registers.{AreRegisters}
 
 -- a state as every run has it
@@ -26,7 +26,7 @@ pub record Alike (pages : List ℕ) (more : Beside) (s t : State) : Type 0 where
   pub words : t.words ≡ s.words ++ more.words
   pub journal : t.journal ≡ more.journal ++ s.journal
   pub calls : t.calls ≡ more.calls ++ s.calls
-  pub memory : Agree pages (full s) (full t)
+  pub memory : AgreeOn pages (full s) (full t)
 
 abbrev pub AlikeEvents : List ℕ → Beside → Event → Event → Type 0
 AlikeEvents pages more (Went s) (Went t) = Alike pages more s t
@@ -52,7 +52,7 @@ RunReadsItsFeet =
     → Alike pages more s r
     → after s n ≡ Some t
     → ((k : ℕ) (u : State) → k < n → after s k ≡ Some u → Within (foot_of u) pages)
-    → (v : State) × (after r n ≡ Some v) × Alike pages more t v × (spent r n ≡ spent s n) × IsReady t
+    → (v : State) × (after r n ≡ Some v) × Alike pages more t v × (run_cost r n ≡ run_cost s n) × IsReady t
 
 -- the run from r halts in its step n with this code, journal and calls, and no word left
 pub record HaltsAfter (r : State) (n : ℕ) (code : ℕ) (journal : List ℕ) (calls : List AssumeCall) : Type 0 where

@@ -5,3 +5,4 @@ pub mod Runs
 pub mod Laws
 pub mod Acts
 pub mod Stepping
+pub mod Limits

@@ -14,13 +14,14 @@ use Rattle.host_calls.specs.declared.call.Call.{Call}
 use Rattle.host_calls.specs.declared.call.Call.TheVariants.{Halt, Read, Commit, Assume}
 use Rattle.rv_step.specs.declared.act.Act.{Act}
 use Rattle.rv_step.specs.declared.act.Act.TheVariants.{Sets, Loads, Stores, Does, Faults}
-use Rattle.rv_isa.specs.Words.{unsigned, plus}
+use Rattle.rv_isa.specs.Words.{unsigned_of, plus}
 use Rattle.rv_isa.specs.Registers.{register, with_register}
 use Rattle.host_calls.specs.declared.call.AssumeCall.{AssumeCall}
 use Rattle.rv_isa.specs.Arithmetic.{alu_of, taken_of}
 use Rattle.page_core.specs.Memory.{top, bytes, put, pages_of, ascending, without}
 use Rattle.rv_isa.specs.Rows.{decode_of}
 use Rattle.host_calls.specs.Calls.{read_call_of, ranges_of, takes, cost_of}
+use Rattle.page_core.specs.declared.sizes.TheConstants.{REGISTER_PAGE}
 
 -- where a run is: its pc, its registers, its memory, the words still to come, and what it has said so far
 pub record State : Type 0 where
@@ -73,7 +74,7 @@ act_of (Load op rd rs1 imm) pc x =
     let a = plus (register x rs1) imm in at_address (byte_len (load_width op)) a (Loads op rd a)
 act_of (Store op rs1 rs2 imm) pc x =
     let a = plus (register x rs1) imm in at_address (byte_len (store_width op)) a (Stores op a (register x rs2))
-act_of (AluImm op rd rs1 imm) pc x = Sets (pc + 4) rd (alu_of op (register x rs1) (unsigned imm))
+act_of (AluImm op rd rs1 imm) pc x = Sets (pc + 4) rd (alu_of op (register x rs1) (unsigned_of imm))
 act_of (Alu op rd rs1 rs2) pc x = Sets (pc + 4) rd (alu_of op (register x rs1) (register x rs2))
 act_of Fence pc x = Sets (pc + 4) 0 0
 act_of Ecall pc x = call_act (read_call_of x)
@@ -84,51 +85,51 @@ unfoldable pub act_of_word : ℕ → ℕ → List ℕ → Act
 act_of_word word pc x = elim (decode_of word) [ Some instr ↦ act_of instr pc x | None ↦ Faults (Illegal word) ]
 
 -- a call that takes more words than are left faults
-abbrev pub supplied : ℕ → Act → Act
-supplied left (Does call) = cond (leb (takes call) left) (Does call) (Faults InputEnd)
-supplied left act = act
+abbrev pub act_with_words : ℕ → Act → Act
+act_with_words left (Does call) = cond (leb (takes call) left) (Does call) (Faults InputEnd)
+act_with_words left act = act
 
 -- the act of a state: fetch, decode, test
 unfoldable pub act : State → Act
 act s =
     cond (leb top s.pc) (Faults (BadAddress s.pc))
-    (supplied (length s.words) (act_of_word (from_le_bytes w32 (bytes s.memory s.pc 4)) s.pc s.x))
+    (act_with_words (length s.words) (act_of_word (from_le_bytes w32 (bytes s.memory s.pc 4)) s.pc s.x))
 
 -- ---- doing it
 -- a number of k bits as a word, its sign extended; half is 2 ^ (k - 1)
-abbrev pub extended : ℕ → ℕ → ℕ
-extended half n = cond (ltb n half) n (n + (2 ^ 32 - 2 * half))
+abbrev pub sign_extension : ℕ → ℕ → ℕ
+sign_extension half n = cond (ltb n half) n (n + (2 ^ 32 - 2 * half))
 
-abbrev pub loaded : LoadOp → ℕ → ℕ
-loaded Lb n = extended (2 ^ 7) n
-loaded Lh n = extended (2 ^ 15) n
-loaded Lw n = n
-loaded Lbu n = n
-loaded Lhu n = n
+abbrev pub loaded_word : LoadOp → ℕ → ℕ
+loaded_word Lb n = sign_extension (2 ^ 7) n
+loaded_word Lh n = sign_extension (2 ^ 15) n
+loaded_word Lw n = n
+loaded_word Lbu n = n
+loaded_word Lhu n = n
 
 -- the next step, with a value in a register
 abbrev pub next : State → ℕ → ℕ → State
 next s rd v = record s { pc = s.pc + 4; x = with_register s.x rd v }
 
-unfoldable pub called : Call → State → Event
-called (Halt code) s = Halted code
-called (Read pointer count) s =
+unfoldable pub call_event : Call → State → Event
+call_event (Halt code) s = Halted code
+call_event (Read pointer count) s =
     Went (next (record s { memory = put s.memory pointer (flat_map (to_le_bytes w32) (take count s.words)); words = drop count s.words }) 10 count)
-called (Commit pointer count) s = Went (next (record s { journal = s.journal ++ bytes s.memory pointer count }) 10 count)
-called (Assume image journal) s =
+call_event (Commit pointer count) s = Went (next (record s { journal = s.journal ++ bytes s.memory pointer count }) 10 count)
+call_event (Assume image journal) s =
     Went (next (record s { calls = s.calls ++ (record { image = bytes s.memory image 32; journal = bytes s.memory journal 32 } ∷ []) }) 10 0)
 
-unfoldable pub done : Act → State → Event
-done (Sets pc rd v) s = Went (record s { pc = pc; x = with_register s.x rd v })
-done (Loads op rd a) s =
-    let w = load_width op in Went (next s rd (loaded op (from_le_bytes w (bytes s.memory a (byte_len w)))))
-done (Stores op a v) s = Went (next (record s { memory = put s.memory a (to_le_bytes (store_width op) v) }) 0 0)
-done (Does call) s = called call s
-done (Faults fault) s = Faulted fault
+unfoldable pub act_event : Act → State → Event
+act_event (Sets pc rd v) s = Went (record s { pc = pc; x = with_register s.x rd v })
+act_event (Loads op rd a) s =
+    let w = load_width op in Went (next s rd (loaded_word op (from_le_bytes w (bytes s.memory a (byte_len w)))))
+act_event (Stores op a v) s = Went (next (record s { memory = put s.memory a (to_le_bytes (store_width op) v) }) 0 0)
+act_event (Does call) s = call_event call s
+act_event (Faults fault) s = Faulted fault
 
 -- ---- the step, its footprint and its cost
 unfoldable pub step_of : State → Event
-step_of s = done (act s) s
+step_of s = act_event (act s) s
 
 -- the ranges of data that an act reads or writes
 abbrev pub data_of : Act → List (ℕ × ℕ)
@@ -146,8 +147,8 @@ pages_of_all (r ∷ rs) = pages_of r.0 r.1 ++ pages_of_all rs
 -- ascending, each page once
 abbrev pub foot_at : ℕ → Act → List ℕ
 foot_at pc a =
-    cond (leb top pc) (262143 ∷ [])
-    (262143 ∷ pc / 1024 ∷ ascending (without (pc / 1024) (pages_of_all (data_of a))))
+    cond (leb top pc) (REGISTER_PAGE ∷ [])
+    (REGISTER_PAGE ∷ pc / 1024 ∷ ascending (without (pc / 1024) (pages_of_all (data_of a))))
 
 unfoldable pub foot_of : State → List ℕ
 foot_of s = foot_at s.pc (act s)

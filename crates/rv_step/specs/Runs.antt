@@ -3,7 +3,7 @@ use Rattle.std.specs.Prelude.{◌≡◌, ℕ, zero, suc, ◌+◌, ◌≤◌, con
 use Rattle.page_core.specs.Images.{Image}
 use Rattle.rv_step.specs.Machine.{State, Event, Went, Halted, Faulted, step_of, foot_of, step_cost}
 use Rattle.rv_step.specs.declared.outcome.Outcome.{Outcome}
-use Rattle.rv_step.specs.declared.outcome.Outcome.TheVariants.{Halted as HaltedWith, Faulted as FaultedAt, OverLimit}
+use Rattle.rv_step.specs.declared.outcome.Outcome.TheVariants.{Halted as HaltedAt, Faulted as FaultedAt, OverLimit}
 
 -- where the run of an image and input words begins: all registers are zero
 abbrev pub start : Image → List ℕ → State
@@ -25,23 +25,23 @@ at_some f (Some s) = f s
 at_some f None = 0
 
 -- what n steps from s cost
-unfoldable pub spent : State → ℕ → ℕ
-spent s zero = 0
-spent s (suc n) = spent s n + at_some step_cost (after s n)
+unfoldable pub run_cost : State → ℕ → ℕ
+run_cost s zero = 0
+run_cost s (suc n) = run_cost s n + at_some step_cost (after s n)
 
 -- the pages that n steps from s touch
 abbrev pub pages_at : Option State → List ℕ
 pages_at (Some s) = foot_of s
 pages_at None = []
 
-unfoldable pub touched : State → ℕ → List ℕ
-touched s zero = []
-touched s (suc n) = touched s n ++ pages_at (after s n)
+unfoldable pub run_pages : State → ℕ → List ℕ
+run_pages s zero = []
+run_pages s (suc n) = run_pages s n ++ pages_at (after s n)
 
 -- how step k, at this pc, ends a run, if it does
 abbrev pub ends_with : ℕ → ℕ → Event → Option Outcome
 ends_with k pc (Went u) = None
-ends_with k pc (Halted code) = Some (HaltedWith code)
+ends_with k pc (Halted code) = Some (HaltedAt code)
 ends_with k pc (Faulted fault) = Some (FaultedAt fault pc k)
 
 -- what ends a run at its step k, from the state t before that step, the earlier steps having cost c
@@ -53,11 +53,11 @@ pub record IsOutcome (s : State) (limit : ℕ) (o : Outcome) : Type 0 where
   pub step : ℕ
   pub state : State
   pub reached : after s step ≡ Some state
-  pub afforded : spent s step ≤ limit
-  pub ended : verdict limit (spent s step) step state ≡ Some o
+  pub afforded : run_cost s step ≤ limit
+  pub ended : verdict limit (run_cost s step) step state ≡ Some o
 
 -- how many steps were done by then, of which the first k went: the one that halts is one of them, one that faults or costs too much isn't
 abbrev pub steps_done : ℕ → Outcome → ℕ
-steps_done k (HaltedWith code) = k + 1
+steps_done k (HaltedAt code) = k + 1
 steps_done k (FaultedAt fault pc step) = k
 steps_done k (OverLimit step) = k

@@ -13,6 +13,7 @@ use Rattle.rv_step.specs.declared.stepping.Event.TheVariants as E
 use Rattle.rv_step.specs.declared.stepping.Paid.{Paid}
 use Rattle.rv_step.specs.declared.stepping.StepStop.{StepStop}
 use Rattle.rv_step.specs.declared.stepping.StepStop.TheVariants as S
+use Rattle.page_core.specs.declared.sizes.TheConstants.{REGISTER_PAGE}
 
 -- each byte of a range lies in a page of these
 abbrev pub Opens : (ℕ → Bool) → ℕ → ℕ → Type 0
@@ -39,7 +40,7 @@ HasTarget (Faults fault) = Unit {0}
 -- ---- looking
 -- the pages of a fetch: the register page, and the code page where the pc is in range
 abbrev pub fetch_foot : State → List ℕ
-fetch_foot s = cond (leb top s.pc) (262143 ∷ []) (262143 ∷ s.pc / 1024 ∷ [])
+fetch_foot s = cond (leb top s.pc) (REGISTER_PAGE ∷ []) (REGISTER_PAGE ∷ s.pc / 1024 ∷ [])
 
 -- a value where no page is closed
 abbrev pub unless_closed : {A : Type 0} → Option ℕ → A → Result A ℕ
@@ -47,8 +48,8 @@ unless_closed (Some page) a = Err page
 unless_closed None a = Ok a
 
 -- the act, or the first page of the fetch that isn't open
-abbrev pub fetched : (ℕ → Bool) → State → Result Act ℕ
-fetched opens s = unless_closed (first_closed opens (fetch_foot s)) (act s)
+abbrev pub fetched_act : (ℕ → Bool) → State → Result Act ℕ
+fetched_act opens s = unless_closed (first_closed opens (fetch_foot s)) (act s)
 
 abbrev pub fault_in : Event → Option Fault
 fault_in (Went t) = None
@@ -74,18 +75,18 @@ pub record IsNext (opens : ℕ → Bool) (s : State) (a : Act) : Type 0 where
   pub no_closed : first_closed opens (foot_of s) ≡ None
 
 -- the answer that an event gives, where the step leads from s to t; want of memory may always be one
-abbrev pub Answers : Event → State → State → Result StepEvent StepStop → Type 0
-Answers event s t (Ok E.Went) = event ≡ Went t
-Answers event s t (Ok (E.Halted code)) = (event ≡ Halted code) × (t ≡ s)
-Answers event s t (Err (S.Miss page)) = ⊥
-Answers event s t (Err (S.Fault fault)) = (event ≡ Faulted fault) × (t ≡ s)
-Answers event s t (Err S.Memory) = t ≡ s
+abbrev pub AnswersEvent : Event → State → State → Result StepEvent StepStop → Type 0
+AnswersEvent event s t (Ok E.Went) = event ≡ Went t
+AnswersEvent event s t (Ok (E.Halted code)) = (event ≡ Halted code) × (t ≡ s)
+AnswersEvent event s t (Err (S.Miss page)) = ⊥
+AnswersEvent event s t (Err (S.Fault fault)) = (event ≡ Faulted fault) × (t ≡ s)
+AnswersEvent event s t (Err S.Memory) = t ≡ s
 
 -- from s the step over these open pages leads to t with this answer: it misses the first page of the footprint that
 -- isn't open, and where all are open it answers what the step is
 abbrev pub IsStepOf : (ℕ → Bool) → State → State → Result StepEvent StepStop → Type 0
 IsStepOf opens s t (Err (S.Miss page)) = (first_closed opens (foot_of s) ≡ Some page) × (t ≡ s)
-IsStepOf opens s t answer = (first_closed opens (foot_of s) ≡ None) × Answers (step_of s) s t answer
+IsStepOf opens s t answer = (first_closed opens (foot_of s) ≡ None) × AnswersEvent (step_of s) s t answer
 
 -- so it is of a step that is done only where it costs at most so much, which is tested before its fault
 abbrev pub IsPaidStepOf : (ℕ → Bool) → ℕ → State → State → Result (Option Paid) StepStop → Type 0

@@ -4,7 +4,7 @@ ghost use Rattle.std.specs.Int.{byte_len};
 ghost use Rattle.page_core.specs.Memory.{top};
 ghost use Rattle.rv_isa.specs.Words.{plus};
 ghost use Rattle.rv_isa.specs.Registers.{HasRegisters};
-ghost use Rattle.rv_step.specs.Machine.{act_of, act_of_word, at_address, jump, supplied};
+ghost use Rattle.rv_step.specs.Machine.{act_of, act_of_word, at_address, jump, act_with_words};
 ghost use Rattle.rv_step.specs.Stepping.{HasTarget};
 
 use crate::act::Act;
@@ -166,7 +166,7 @@ pub(crate) fn act_at(word: u32, core: &Core) -> Act
 // The act, or the end of input where it takes more words than are left.
 pub(crate) fn supply(left: usize, act: Act) -> Act
     requires { HasTarget act }
-    ensures meaning { result ≡ supplied left act }
+    ensures meaning { result ≡ act_with_words left act }
     ensures register { HasTarget result }
 {
     match act {

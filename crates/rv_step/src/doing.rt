@@ -6,10 +6,10 @@ ghost use Rattle.rv_isa.specs.Registers.{with_register};
 ghost use Rattle.host_calls.specs.declared.call.Call.TheVariants.{Read, Commit, Assume};
 ghost use Rattle.host_calls.specs.Calls.{fits_below, ranges_of, takes};
 ghost use Rattle.rv_step.specs.declared.act.Act.TheVariants.{Loads, Stores, Does};
-ghost use Rattle.rv_step.specs.Acts.{AllBelow, IsAligned, KeepsLimits};
-ghost use Rattle.rv_step.specs.Machine.{Went, done, called, extended, loaded, load_width, store_width};
+ghost use Rattle.rv_step.specs.Acts.{AllBelow, IsAligned, IsShortCall};
+ghost use Rattle.rv_step.specs.Machine.{Went, act_event, call_event, sign_extension, loaded_word, load_width, store_width};
 ghost use Rattle.rv_step.specs.Tapes.{Tape, Log};
-ghost use Rattle.rv_step.specs.Stepping.{Opens, AllOpen, Answers, state_at};
+ghost use Rattle.rv_step.specs.Stepping.{Opens, AllOpen, AnswersEvent, state_at};
 
 use crate::access::{
     load_byte, load_bytes, load_digest, load_half, make_range_ready, store_byte, store_half,
@@ -38,7 +38,7 @@ fn go_on(core: &mut Core, rd: u8, value: u32)
 fn sign_extended(value: u32, half: u32) -> u32
     requires half { half ≤ 2 ^ 15 }
     requires value { value < 2 * half }
-    ensures { result ≡ extended half value }
+    ensures { result ≡ sign_extension half value }
 {
     if value < half {
         value
@@ -51,7 +51,7 @@ fn sign_extended(value: u32, half: u32) -> u32
 fn load_value<B: Bus>(op: LoadOp, address: u32, bus: &B) -> u32
     requires aligned { address % byte_len (load_width op) ≡ 0 }
     requires opened { IsTrue (B.opens bus.now (address / 1024)) }
-    ensures { result ≡ loaded op (from_le_bytes (load_width op) (bytes (B.byte_at bus.now) address (byte_len (load_width op)))) }
+    ensures { result ≡ loaded_word op (from_le_bytes (load_width op) (bytes (B.byte_at bus.now) address (byte_len (load_width op)))) }
 {
     match op {
         LoadOp::Lb => sign_extended(u32::from(load_byte(bus, address)), 1 << 7),
@@ -84,7 +84,7 @@ pub(crate) fn load<B: Bus>(op: LoadOp, rd: u8, address: u32, core: &mut Core, bu
     requires aligned { address % byte_len (load_width op) ≡ 0 }
     requires opened { IsTrue (B.opens bus.now (address / 1024)) }
     ensures place { core.new.pc ≡ core.old.pc + 4 }
-    ensures went { (tape : Tape) (log : Log) → done (Loads op rd address) (state_at core.old (B.byte_at bus.now) tape log) ≡ Went (state_at core.new (B.byte_at bus.now) tape log) }
+    ensures went { (tape : Tape) (log : Log) → act_event (Loads op rd address) (state_at core.old (B.byte_at bus.now) tape log) ≡ Went (state_at core.new (B.byte_at bus.now) tape log) }
 {
     let value = load_value(op, address, bus);
     go_on(core, rd, value);
@@ -103,7 +103,7 @@ pub(crate) fn store<B: Bus>(
     requires opened { IsTrue (B.opens bus.old (address / 1024)) }
     ensures same_pages { B.opens bus.new ≡ B.opens bus.old }
     ensures place { OnOk result (core.new.pc ≡ core.old.pc + 4) }
-    ensures went { OnOk result ((tape : Tape) (log : Log) → done (Stores op address value) (state_at core.old (B.byte_at bus.old) tape log) ≡ Went (state_at core.new (B.byte_at bus.new) tape log)) }
+    ensures went { OnOk result ((tape : Tape) (log : Log) → act_event (Stores op address value) (state_at core.old (B.byte_at bus.old) tape log) ≡ Went (state_at core.new (B.byte_at bus.new) tape log)) }
     ensures refused { OnErr result ((core.new ≡ core.old) × (B.byte_at bus.new ≡ B.byte_at bus.old)) }
 {
     bus.make_ready(address / 1024)?;
@@ -129,7 +129,7 @@ fn read<B: Bus>(
     ensures same_pages { B.opens bus.new ≡ B.opens bus.old }
     ensures same_words { tape.new.words ≡ tape.old.words }
     ensures place { OnOk result (core.new.pc ≡ core.old.pc + 4) }
-    ensures went { OnOk result ((log : Log) → called (Read pointer count) (state_at core.old (B.byte_at bus.old) tape.old log) ≡ Went (state_at core.new (B.byte_at bus.new) tape.new log)) }
+    ensures went { OnOk result ((log : Log) → call_event (Read pointer count) (state_at core.old (B.byte_at bus.old) tape.old log) ≡ Went (state_at core.new (B.byte_at bus.new) tape.new log)) }
     ensures refused { OnErr result ((core.new ≡ core.old) × (B.byte_at bus.new ≡ B.byte_at bus.old) × (tape.new ≡ tape.old)) }
 {
     if count == 0 {
@@ -156,7 +156,7 @@ fn commit<B: Bus>(
     requires below { IsTrue (fits_below pointer count) }
     requires opened { Opens (B.opens bus.now) pointer count }
     ensures place { OnOk result (core.new.pc ≡ core.old.pc + 4) }
-    ensures went { OnOk result ((tape : Tape) → called (Commit pointer count) (state_at core.old (B.byte_at bus.now) tape log.old) ≡ Went (state_at core.new (B.byte_at bus.now) tape log.new)) }
+    ensures went { OnOk result ((tape : Tape) → call_event (Commit pointer count) (state_at core.old (B.byte_at bus.now) tape log.old) ≡ Went (state_at core.new (B.byte_at bus.now) tape log.new)) }
     ensures refused { OnErr result ((core.new ≡ core.old) × (log.new ≡ log.old)) }
 {
     if count == 0 {
@@ -185,7 +185,7 @@ fn assume<B: Bus>(
     requires image_open { Opens (B.opens bus.now) image 32 }
     requires journal_open { Opens (B.opens bus.now) journal 32 }
     ensures place { OnOk result (core.new.pc ≡ core.old.pc + 4) }
-    ensures went { OnOk result ((tape : Tape) → called (Assume image journal) (state_at core.old (B.byte_at bus.now) tape log.old) ≡ Went (state_at core.new (B.byte_at bus.now) tape log.new)) }
+    ensures went { OnOk result ((tape : Tape) → call_event (Assume image journal) (state_at core.old (B.byte_at bus.now) tape log.old) ≡ Went (state_at core.new (B.byte_at bus.now) tape log.new)) }
     ensures refused { OnErr result ((core.new ≡ core.old) × (log.new ≡ log.old)) }
 {
     let call = AssumeCall {
@@ -206,7 +206,7 @@ pub(crate) fn perform<B: Bus>(
     log: &mut RunLog,
 ) -> Result<Event, StepStop>
     requires place { core.old.pc < top }
-    requires limits { KeepsLimits (Does call) }
+    requires limits { IsShortCall (Does call) }
     requires aligned { IsAligned (Does call) }
     requires below { AllBelow (ranges_of call) }
     requires opened { AllOpen (B.opens bus.old) (ranges_of call) }
@@ -214,7 +214,7 @@ pub(crate) fn perform<B: Bus>(
     ensures place { (core.new ≡ core.old) ⊎ (core.new.pc ≡ core.old.pc + 4) }
     ensures same_pages { B.opens bus.new ≡ B.opens bus.old }
     ensures same_words { tape.new.words ≡ tape.old.words }
-    ensures answer { Answers (called call (state_at core.old (B.byte_at bus.old) tape.old log.old)) (state_at core.old (B.byte_at bus.old) tape.old log.old) (state_at core.new (B.byte_at bus.new) tape.new log.new) result }
+    ensures answer { AnswersEvent (call_event call (state_at core.old (B.byte_at bus.old) tape.old log.old)) (state_at core.old (B.byte_at bus.old) tape.old log.old) (state_at core.new (B.byte_at bus.new) tape.new log.new) result }
     ensures refused { OnErr result ((core.new ≡ core.old) × (B.byte_at bus.new ≡ B.byte_at bus.old) × (tape.new ≡ tape.old) × (log.new ≡ log.old)) }
 {
     match call {

@@ -7,6 +7,7 @@ mod acting;
 mod bus;
 mod doing;
 mod laws;
+mod limits;
 mod looking;
 mod open_pages;
 mod outcome;
@@ -21,6 +22,7 @@ pub use laws::{
     acts_are_sound, run_reads_its_feet, step_halts_with_word, step_is_small, step_keeps,
     step_reads_its_foot,
 };
+pub use limits::{CYCLES_MAX, CYCLES_MIN, LIMIT_MAX, PAGES_MAX, PAGES_MIN};
 pub use looking::{Looked, look};
 pub use open_pages::OpenPages;
 pub use outcome::Outcome;

@@ -5,9 +5,9 @@ ghost use Rattle.host_calls.specs.Foots.{with_pages};
 ghost use Rattle.host_calls.specs.Calls.{fits_below, ranges_of};
 ghost use Rattle.rv_step.specs.declared.act.Act.TheVariants.{Does};
 ghost use Rattle.rv_step.specs.Machine.{data_of, pages_of_all, foot_at, cost_of_act};
-ghost use Rattle.rv_step.specs.Acts.{AllBelow, KeepsLimits, IsSound};
+ghost use Rattle.rv_step.specs.Acts.{AllBelow, IsShortCall, IsSound};
 ghost use Rattle.rv_step.specs.Tapes.{Log};
-ghost use Rattle.rv_step.specs.Stepping.{state_at, fetched, looked_of, act_fault, HasTarget};
+ghost use Rattle.rv_step.specs.Stepping.{state_at, fetched_act, looked_of, act_fault, HasTarget};
 
 use crate::act::Act;
 use crate::acting::{act_at, load_width, store_width, supply};
@@ -32,7 +32,7 @@ pub struct Looked {
 // The act of the next step, or the first page of its fetch that isn't open.
 pub(crate) fn fetch<B: Bus>(core: &Core, bus: &B, tape: &WordTape) -> Result<Act, u32>
     requires { core.now.pc % 4 ≡ 0 }
-    ensures answer { (log : Log) → result ≡ fetched (B.opens bus.now) (state_at core.now (B.byte_at bus.now) tape.now log) }
+    ensures answer { (log : Log) → result ≡ fetched_act (B.opens bus.now) (state_at core.now (B.byte_at bus.now) tape.now log) }
     ensures register { IfOk result (λ act. HasTarget act) }
     ensures sound { IfOk result (λ act. IsSound core.now.regs act) }
 {
@@ -76,7 +76,7 @@ fn add_range(foot: &mut Foot, address: u32, size: u32)
 // Adds the pages of a call's data, which are at most four.
 fn add_call(foot: &mut Foot, call: &Call)
     requires fetch { length foot.old ≡ 2 }
-    requires limits { KeepsLimits (Does call.now) }
+    requires limits { IsShortCall (Does call.now) }
     requires below { AllBelow (ranges_of call.now) }
     ensures { foot.new ≡ with_pages foot.old (pages_of_all (ranges_of call.now)) }
 {
@@ -93,7 +93,7 @@ fn add_call(foot: &mut Foot, call: &Call)
 
 // The footprint of an act.
 pub(crate) fn footprint(pc: u32, act: &Act) -> Foot
-    requires limits { KeepsLimits act.now }
+    requires limits { IsShortCall act.now }
     requires below { AllBelow (data_of act.now) }
     ensures { result ≡ foot_at pc act.now }
 {
@@ -113,7 +113,7 @@ pub(crate) fn footprint(pc: u32, act: &Act) -> Foot
 
 // The cost of an act.
 pub(crate) fn cost_of(act: &Act) -> u32
-    requires { KeepsLimits act.now }
+    requires { IsShortCall act.now }
     ensures { result ≡ cost_of_act act.now }
 {
     match act {

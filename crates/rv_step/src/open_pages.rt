@@ -1,5 +1,6 @@
 ghost use Rattle.std.specs.Prelude.{◌≡◌, ◌≢◌, ℕ, ◌<◌, ◌≤◌, Some, None, OnOk, OnErr, option_map};
 ghost use Rattle.rv_step.specs.Opened.{page_in};
+ghost use Rattle.page_core.specs.declared.sizes.TheConstants.{PAGES};
 
 use crate::bus::Bus;
 use page_core::Page;
@@ -33,7 +34,7 @@ impl OpenPages {
 
     /// Opens a page, or puts other bytes into an open one. Without memory no page changes.
     pub fn open(&mut self, number: u32, page: &Page) -> Result<(), AllocError>
-        requires { number < 262144 }
+        requires { number < PAGES }
         ensures opened { OnOk result (page_in self.new number ≡ Some page.now) }
         ensures others { (n : ℕ) → n ≢ number → page_in self.new n ≡ page_in self.old n }
         ensures kept { OnErr result ((n : ℕ) → page_in self.new n ≡ page_in self.old n) }

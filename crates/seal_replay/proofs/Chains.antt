@@ -9,13 +9,13 @@ use Rattle.page_core.proofs.Options.{first_none, second_none}
 use Rattle.std.proofs.lemmas.Bool.Decides.{nat_tests, eqb_tells}
 use Rattle.rv_isa.specs.declared.fault.Fault.{Fault}
 use Rattle.rv_isa.specs.declared.fault.Fault.TheVariants.{InputEnd}
-use Rattle.page_core.specs.Memory.{top, is_among, Within, Agree}
+use Rattle.page_core.specs.Memory.{top, is_among, Within, AgreeOn}
 use Rattle.host_calls.specs.declared.call.AssumeCall.{AssumeCall}
 use Rattle.rv_step.specs.Machine.{State, Event, Went, Halted, Faulted, step_of, foot_of, full, full_of, first_closed}
 use Rattle.page_core.specs.Images.{Image, IsImage}
 use Rattle.rv_step.specs.Runs.{start, after}
 use Rattle.receipt_types.specs.Seals.{Seal, words_of, steps_of}
-use Rattle.seal_replay.specs.Replay.{memory_of, opened_by, enter, registers_in, page_stop, event_stop, stop_at, first_below, step_stop, stop_of, ending, halting, split, words_stop}
+use Rattle.seal_replay.specs.Replay.{seal_memory, opened_by, enter, registers_in, page_stop, event_stop, stop_at, first_below, step_stop, stop_of, ending, halting, split, words_stop}
 use Rattle.seal_replay.specs.declared.stop.ReplayStop.{ReplayStop}
 use Rattle.std.specs.Option.{option_or}
 use Rattle.claim_types.specs.declared.claim.Exit.{Exit}
@@ -115,15 +115,15 @@ module _ (r s : State) (b : ℕ) (seal : Seal) (rest : List ℕ) (reached : afte
   it_is : begins.state ≡ s
   it_is = same_Some begins.state s (sym begins.reached ∙ reached)
 
-  shows : Agree (opened_by seal) (memory_of seal) (full s)
-  shows = subst (λ (u : State). Agree (opened_by seal) (memory_of seal) (full u)) it_is begins.shows
+  shows : AgreeOn (opened_by seal) (seal_memory seal) (full s)
+  shows = subst (λ (u : State). AgreeOn (opened_by seal) (seal_memory seal) (full u)) it_is begins.shows
 
   pub opens_registers : Contains (opened_by seal) 262143
   unfolding after
   opens_registers = feet_open seal clean 0 (enter seal) some_steps refl 262143 (foot_has_registers (enter seal))
 
-  same_registers : registers_in (memory_of seal) ≡ s.x
-  same_registers = registers_shown (opened_by seal) (memory_of seal) s fit.registers opens_registers shows
+  same_registers : registers_in (seal_memory seal) ≡ s.x
+  same_registers = registers_shown (opened_by seal) (seal_memory seal) s fit.registers opens_registers shows
 
   same_pc : s.pc ≡ seal.pc
   same_pc = sym (begins.pc ∙ ap (λ u. u.pc) it_is)
@@ -143,8 +143,8 @@ module _ (r s : State) (b : ℕ) (seal : Seal) (rest : List ℕ) (reached : afte
     journal = sym (append-nil s.journal);
     calls = sym (append-nil s.calls);
     memory =
-        subst (λ (x : List ℕ). Agree (opened_by seal) (full_of (memory_of seal) x) (full s)) (sym same_registers)
-        (full_shown (opened_by seal) (memory_of seal) s shows);
+        subst (λ (x : List ℕ). AgreeOn (opened_by seal) (full_of (seal_memory seal) x) (full s)) (sym same_registers)
+        (full_shown (opened_by seal) (seal_memory seal) s shows);
   }
 
   -- the run does the seal's first n steps

@@ -5,7 +5,7 @@ use Rattle.std.specs.Option.{option_or}
 use Rattle.std.proofs.lemmas.Bool.Decides.{nat_tests}
 use Rattle.page_core.specs.Memory.{is_among}
 use Rattle.rv_step.specs.Machine.{State, first_closed}
-use Rattle.rv_step.specs.Runs.{touched}
+use Rattle.rv_step.specs.Runs.{run_pages}
 use Rattle.claim_types.specs.declared.claim.Exit.{Exit}
 use Rattle.receipt_types.specs.Seals.{Seal}
 use Rattle.seal_replay.specs.declared.stop.ReplayStop.{ReplayStop}
@@ -18,18 +18,18 @@ use Rattle.seal_replay.proofs.Marked.{idle_same}
 pub step_stopped : (seal : Seal) (stop : ReplayStop) → first_below (step_stop seal) seal.steps ≡ Some stop → stop_of seal ≡ Some stop
 unfolding stop_of
 step_stopped seal stop h =
-    ap (λ (o : Option ReplayStop). option_or o (option_or (option_and_then words_stop (ending seal)) (idle_stop (first_closed (is_among (touched (enter seal) seal.steps)) (opened_by seal))))) h
+    ap (λ (o : Option ReplayStop). option_or o (option_or (option_and_then words_stop (ending seal)) (idle_stop (first_closed (is_among (run_pages (enter seal) seal.steps)) (opened_by seal))))) h
 
 module _ (seal : Seal) (exit : Exit) (s : State) (marks : List Bool) (ended : HasEnded seal exit s marks) where
-  idle_is : first_closed (λ p. get_or marks p false) (opened_by seal) ≡ first_closed (is_among (touched (enter seal) seal.steps)) (opened_by seal)
-  idle_is = idle_same (opened_by seal) marks (touched (enter seal) seal.steps) ended.marked
+  idle_is : first_closed (λ p. get_or marks p false) (opened_by seal) ≡ first_closed (is_among (run_pages (enter seal) seal.steps)) (opened_by seal)
+  idle_is = idle_same (opened_by seal) marks (run_pages (enter seal) seal.steps) ended.marked
 
   -- after all steps the words and the marks decide
   late : stop_of seal ≡ option_or (words_stop (exit, s)) (idle_stop (first_closed (λ p. get_or marks p false) (opened_by seal)))
   unfolding stop_of
   late =
-      ap (λ (o : Option ReplayStop). option_or o (option_or (option_and_then words_stop (ending seal)) (idle_stop (first_closed (is_among (touched (enter seal) seal.steps)) (opened_by seal))))) ended.clean
-      ∙ ap (λ (o : Option (Exit × State)). option_or (option_and_then words_stop o) (idle_stop (first_closed (is_among (touched (enter seal) seal.steps)) (opened_by seal)))) ended.ends
+      ap (λ (o : Option ReplayStop). option_or o (option_or (option_and_then words_stop (ending seal)) (idle_stop (first_closed (is_among (run_pages (enter seal) seal.steps)) (opened_by seal))))) ended.clean
+      ∙ ap (λ (o : Option (Exit × State)). option_or (option_and_then words_stop o) (idle_stop (first_closed (is_among (run_pages (enter seal) seal.steps)) (opened_by seal)))) ended.ends
       ∙ ap (λ (o : Option ℕ). option_or (words_stop (exit, s)) (idle_stop o)) (sym idle_is)
 
   pub words_left : (count : ℕ) → count ≡ length s.words → count ≢ 0 → stop_of seal ≡ Some (Stop.WordsLeft count)

@@ -9,7 +9,7 @@ use Rattle.rv_isa.specs.declared.fault.Fault.{Fault}
 use Rattle.rv_isa.specs.declared.fault.Fault.TheVariants.{Illegal, BadAddress, Misaligned, BadTarget, Break, BadCall, BadArgs, InputEnd}
 use Rattle.page_core.specs.Memory.{is_among}
 use Rattle.rv_step.specs.Machine.{State, Event, Went, Halted, Faulted, step_of, foot_of, first_closed}
-use Rattle.rv_step.specs.Runs.{after, touched, pages_at, state_gone}
+use Rattle.rv_step.specs.Runs.{after, run_pages, pages_at, state_gone}
 use Rattle.rv_step.specs.Stepping.{IsStepOf, looked_of}
 use Rattle.rv_step.specs.declared.stepping.Event.TheVariants as E
 use Rattle.rv_step.specs.declared.stepping.StepStop.TheVariants as S
@@ -92,7 +92,7 @@ first_some f k (suc n) stop none is low =
 
 -- ---- the steps so far
 pub gone_none : (seal : Seal) (s : State) (marks : List Bool) → enter seal ≡ s → AreMarked (opened_by seal) marks [] → HasGone seal s marks 0
-unfolding after first_below touched
+unfolding after first_below run_pages
 gone_none seal s marks enters unmarked = record { reached = ap Some enters; clean = refl; marked = unmarked }
 
 module _ (seal : Seal) (s : State) (before : List Bool) (k : ℕ) (gone : HasGone seal s before k) where
@@ -112,11 +112,11 @@ module _ (seal : Seal) (s : State) (before : List Bool) (k : ℕ) (gone : HasGon
 
   module _ (opens : ℕ → Bool) (same : opens ≡ is_among (opened_by seal)) (after' : List Bool) (t : State)
       (within : (p : ℕ) → Contains (opened_by seal) p → p < length before) (more : AreAlsoMarked before after' (foot_of s)) where
-    marked_on : AreMarked (opened_by seal) after' (touched (enter seal) (suc k))
-    unfolding touched
+    marked_on : AreMarked (opened_by seal) after' (run_pages (enter seal) (suc k))
+    unfolding run_pages
     marked_on p h =
-        also_marked (opened_by seal) before after' (touched (enter seal) k) (foot_of s) within gone.marked more p h
-        ∙ ap (λ (o : Option State). is_among (touched (enter seal) k ++ pages_at o) p) (sym gone.reached)
+        also_marked (opened_by seal) before after' (run_pages (enter seal) k) (foot_of s) within gone.marked more p h
+        ∙ ap (λ (o : Option State). is_among (run_pages (enter seal) k ++ pages_at o) p) (sym gone.reached)
 
     pub gone_on : IsEvent opens seal.steps k s t E.Went → HasGone seal t after' (k + 1)
     gone_on event =
@@ -132,7 +132,7 @@ module _ (seal : Seal) (s : State) (before : List Bool) (k : ℕ) (gone : HasGon
         let ended : HasEnded seal (HaltedWith code) s after' = record {
           ends = ends_at seal s k code steps gone.reached halts;
           clean = ap (first_below (step_stop seal)) (sym steps) ∙ clean_on none;
-          marked = subst (λ (n : ℕ). AreMarked (opened_by seal) after' (touched (enter seal) n)) steps marked_on;
+          marked = subst (λ (n : ℕ). AreMarked (opened_by seal) after' (run_pages (enter seal) n)) steps marked_on;
         } in
         subst (λ (u : State). HasEnded seal (HaltedWith code) u after') (sym as_before) ended
       where

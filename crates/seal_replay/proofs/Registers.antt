@@ -5,7 +5,7 @@ use Rattle.std.specs.List.{flat_map}
 use Rattle.std.proofs.lemmas.Bool.Decides.{nat_tests}
 use Rattle.std.proofs.lemmas.List.{get_or_append_left}
 use Rattle.std.proofs.lemmas.Nat.{from_le_bytes-to_le_bytes_4}
-use Rattle.page_core.specs.Memory.{top, bytes, put, Agree}
+use Rattle.page_core.specs.Memory.{top, bytes, put, AgreeOn}
 use Rattle.std.specs.Prelude.{Contains}
 use Rattle.rv_step.specs.Machine.{State, full, full_of}
 use Rattle.seal_replay.specs.Replay.{words_at, registers_in}
@@ -52,7 +52,7 @@ registers_same : (m n : ℕ → ℕ) → ((j : ℕ) → top ≤ j → j < top + 
 unfolding registers_in
 registers_same m n h = ap (◌∷◌ 0) (words_at-same m n (top + 4) 31 (λ j lo hi. h j (omega arith) (omega arith)))
 
-pub registers_shown : (opened : List ℕ) (m : ℕ → ℕ) (s : State) → AreRegisters s.x → Contains opened 262143 → Agree opened m (full s)
+pub registers_shown : (opened : List ℕ) (m : ℕ → ℕ) (s : State) → AreRegisters s.x → Contains opened 262143 → AgreeOn opened m (full s)
     → registers_in m ≡ s.x
 registers_shown opened m s fit shown agree =
     registers_same m (full s)
@@ -60,7 +60,7 @@ registers_shown opened m s fit shown agree =
     ∙ registers_back s.memory s.x fit
 
 -- a memory that shows the full memory of a state shows it with the state's registers written into it once more
-pub full_shown : (opened : List ℕ) (m : ℕ → ℕ) (s : State) → Agree opened m (full s) → Agree opened (full_of m s.x) (full s)
+pub full_shown : (opened : List ℕ) (m : ℕ → ℕ) (s : State) → AgreeOn opened m (full s) → AgreeOn opened (full_of m s.x) (full s)
 unfolding full_of put
 full_shown opened m s agree =
     record {

@@ -5,7 +5,7 @@ use Rattle.claim_types.specs.declared.claim.Exit.{Exit}
 use Rattle.claim_types.specs.declared.claim.Exit.TheVariants.{Split, Halted as HaltedWith}
 use Rattle.seal_replay.specs.Replay.{stop_of, ending}
 use Rattle.seal_replay.specs.declared.stop.ReplayStop.{ReplayStop}
-use Rattle.part_tree.specs.Part.{Part, root_of, put}
+use Rattle.part_tree.specs.Part.{Part, root_of, put_part}
 use Rattle.page_core.specs.Memories.{page_of}
 use Rattle.claim_types.specs.declared.state.State.{State as SystemState}
 use Rattle.claim_types.specs.States.{halted_state}
@@ -18,7 +18,7 @@ before_of H seal = record { pc = seal.pc; root = root_of H seal.tree }
 
 -- the seal's tree with the memory and the registers of a state in its open pages
 abbrev pub put_tree : Seal → State → Part
-put_tree seal t = put 0 seal.tree (page_of (full t))
+put_tree seal t = put_part 0 seal.tree (page_of (full t))
 
 -- the seal's state after, where its replay ends so
 abbrev pub after_of : (List ℕ → List ℕ) → Seal → Exit × State → SystemState

@@ -1,19 +1,19 @@
 -- What a replay tells of a run.
 use Rattle.std.specs.Prelude.{◌≡◌, ℕ, ◌+◌, ◌<◌, ◌≤◌, List, ◌++◌, Some, None}
-use Rattle.page_core.specs.Memory.{Agree}
+use Rattle.page_core.specs.Memory.{AgreeOn}
 use Rattle.rv_step.specs.Machine.{State, full}
 use Rattle.rv_step.specs.Runs.{after}
 use Rattle.rv_step.specs.Laws.{IsReady, Beside, Alike}
 use Rattle.claim_types.specs.declared.claim.Exit.{Exit}
 use Rattle.receipt_types.specs.Seals.{Seal}
-use Rattle.seal_replay.specs.Replay.{memory_of, opened_by, enter, stop_of, ending}
+use Rattle.seal_replay.specs.Replay.{seal_memory, opened_by, enter, stop_of, ending}
 
 -- a seal begins where the run is after b steps: it has that pc, and its opened pages show that memory with its registers
 pub record BeginsAt (r : State) (b : ℕ) (seal : Seal) : Type 0 where
   pub state : State
   pub reached : after r b ≡ Some state
   pub pc : seal.pc ≡ state.pc
-  pub shows : Agree (opened_by seal) (memory_of seal) (full state)
+  pub shows : AgreeOn (opened_by seal) (seal_memory seal) (full state)
 
 -- what the run has beside a replay that begins in its state s: these words still to come, and the journal and calls of s
 abbrev pub beside : State → List ℕ → Beside

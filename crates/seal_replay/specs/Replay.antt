@@ -4,9 +4,9 @@ use Rattle.std.specs.Int.{w32, from_le_bytes}
 use Rattle.rv_isa.specs.declared.fault.Fault.{Fault}
 use Rattle.page_core.specs.Memory.{top, bytes, is_among}
 use Rattle.rv_step.specs.Machine.{State, Event, Went, Halted, Faulted, step_of, foot_of, first_closed}
-use Rattle.rv_step.specs.Runs.{after, touched}
+use Rattle.rv_step.specs.Runs.{after, run_pages}
 use Rattle.page_core.specs.Memories.{flat}
-use Rattle.part_tree.specs.Part.{opened, fill}
+use Rattle.part_tree.specs.Part.{open_numbers, fill}
 use Rattle.claim_types.specs.declared.claim.Exit.{Exit}
 use Rattle.claim_types.specs.declared.claim.Exit.TheVariants.{Split, Halted as HaltedWith}
 use Rattle.receipt_types.specs.Seals.{Seal}
@@ -15,12 +15,12 @@ use Rattle.seal_replay.specs.declared.stop.ReplayStop.TheVariants as Stop
 use Rattle.std.specs.Option.{option_or}
 
 -- the memory that a seal shows: its open pages, and zeros elsewhere
-abbrev pub memory_of : Seal → ℕ → ℕ
-memory_of seal = flat (fill seal.tree)
+abbrev pub seal_memory : Seal → ℕ → ℕ
+seal_memory seal = flat (fill seal.tree)
 
 -- the pages that it opens, ascending
 abbrev pub opened_by : Seal → List ℕ
-opened_by seal = opened 0 seal.tree
+opened_by seal = open_numbers 0 seal.tree
 
 -- the n words from address a on
 unfoldable pub words_at : (ℕ → ℕ) → ℕ → ℕ → List ℕ
@@ -34,7 +34,7 @@ registers_in m = 0 ∷ words_at m (top + 4) 31
 -- where the replay begins: the registers are those of the register page
 abbrev pub enter : Seal → State
 enter seal =
-    record { pc = seal.pc; x = registers_in (memory_of seal); memory = memory_of seal; words = seal.words; journal = []; calls = [] }
+    record { pc = seal.pc; x = registers_in (seal_memory seal); memory = seal_memory seal; words = seal.words; journal = []; calls = [] }
 
 -- ---- the stop of one step: step k, from the state s, among `steps`, over the pages that are open
 abbrev pub fault_stop : ℕ → Fault → ReplayStop
@@ -87,4 +87,4 @@ unfoldable pub stop_of : Seal → Option ReplayStop
 stop_of seal =
     option_or (first_below (step_stop seal) seal.steps)
     (option_or (option_and_then words_stop (ending seal))
-    (idle_stop (first_closed (is_among (touched (enter seal) seal.steps)) (opened_by seal))))
+    (idle_stop (first_closed (is_among (run_pages (enter seal) seal.steps)) (opened_by seal))))

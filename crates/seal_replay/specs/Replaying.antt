@@ -3,7 +3,7 @@ use Rattle.std.specs.Prelude.{◌≡◌, ℕ, ◌<◌, ◌||◌, Bool, false, Li
 use Rattle.page_core.specs.Memory.{is_among}
 use Rattle.page_core.specs.Memories.{flat}
 use Rattle.rv_step.specs.Machine.{State, Went, Halted, step_of}
-use Rattle.rv_step.specs.Runs.{after, touched}
+use Rattle.rv_step.specs.Runs.{after, run_pages}
 use Rattle.rv_step.specs.Opened.{page_in, pages_in}
 use Rattle.rv_step.specs.declared.stepping.Event.{Event as StepEvent}
 use Rattle.rv_step.specs.declared.stepping.Event.TheVariants as E
@@ -29,21 +29,21 @@ IsEvent opens steps k s t (E.Halted code) = (stop_at opens steps k s ≡ None) �
 pub record HasGone (seal : Seal) (s : State) (marks : List Bool) (k : ℕ) : Type 0 where
   pub reached : after (enter seal) k ≡ Some s
   pub clean : first_below (step_stop seal) k ≡ None
-  pub marked : AreMarked (opened_by seal) marks (touched (enter seal) k)
+  pub marked : AreMarked (opened_by seal) marks (run_pages (enter seal) k)
 
 -- all steps are done with this exit, and none of them stops the replay
 pub record HasEnded (seal : Seal) (exit : Exit) (s : State) (marks : List Bool) : Type 0 where
   pub ends : ending seal ≡ Some (exit, s)
   pub clean : first_below (step_stop seal) seal.steps ≡ None
-  pub marked : AreMarked (opened_by seal) marks (touched (enter seal) seal.steps)
+  pub marked : AreMarked (opened_by seal) marks (run_pages (enter seal) seal.steps)
 
 -- the state where a replay ended, with no word left
-abbrev pub state_of : Replayed → State
-state_of r =
+abbrev pub replay_state : Replayed → State
+replay_state r =
     record { pc = r.core.pc; x = r.core.regs; memory = flat (pages_in r.pages); words = []; journal = r.log.journal; calls = r.log.calls }
 
 -- nothing stops the replay, and it ends so, with the tree's pages still open
-pub record EndsSo (seal : Seal) (r : Replayed) : Type 0 where
+pub record IsReplayEnd (seal : Seal) (r : Replayed) : Type 0 where
   pub opens : (n : ℕ) → is_some (page_in r.pages n) ≡ is_among (opened_by seal) n
   pub clean : stop_of seal ≡ None
-  pub ends : ending seal ≡ Some (r.exit, state_of r)
+  pub ends : ending seal ≡ Some (r.exit, replay_state r)

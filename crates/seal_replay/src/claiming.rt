@@ -2,20 +2,21 @@
 ghost use Rattle.std.specs.Prelude.{◌≡◌, ℕ, ◌-◌, ◌%◌, ◌^◌, ◌<◌, ◌≤◌, ◌⊎◌, Some, IfOk, IfErr, IsTrue, is_some};
 ghost use Rattle.page_core.specs.Memory.{is_among};
 ghost use Rattle.page_core.specs.Memories.{flat, page_of};
-ghost use Rattle.part_tree.specs.Part.{IsPart, root_of, opened, put};
+ghost use Rattle.part_tree.specs.Part.{IsPart, root_of, open_numbers, put_part};
 ghost use Rattle.part_tree.specs.Views.{part};
 ghost use Rattle.rv_step.specs.Machine.{full_of};
 ghost use Rattle.rv_step.specs.Opened.{page_in, pages_in};
 ghost use Rattle.seal_replay.specs.declared.stop.ReplayStop.TheVariants.{Memory};
 ghost use Rattle.seal_replay.specs.Claiming.{claim_of};
 ghost use Rattle.seal_replay.specs.Replay.{stop_of};
+ghost use Rattle.part_tree.specs.declared.sizes.TheConstants.{HEIGHT};
 
 use crate::replaying::{Replayed, replay_to_end};
 use crate::stop::ReplayStop;
 use claim_types::{Exit, SpanClaim, State};
 use digest_core::{Digest, Digester, hash, node};
 use page_core::{REGISTER_PAGE, TOP};
-use part_tree::PartTree;
+use part_tree::{HEIGHT, PartTree};
 use receipt_types::Seal;
 use rv_isa::Regs;
 use rv_step::{Bus, OpenPages, RunLog};
@@ -27,7 +28,7 @@ use std::alloc::Global;
 /// open pages, the journal and the assumption calls.
 pub fn replay<D: Digester>(alloc: Global, seal: &Seal) -> Result<SpanClaim, ReplayStop>
     requires aligned { seal.now.pc % 4 ≡ 0 }
-    requires shape { IsPart 18 seal.now.tree }
+    requires shape { IsPart HEIGHT seal.now.tree }
     ensures claim { IfOk result (λ claim. claim_of D.digest_of seal.now ≡ Some claim) }
     ensures stop { IfErr result (λ stop. (stop ≡ Memory) ⊎ (stop_of seal.now ≡ Some stop)) }
 {
@@ -60,12 +61,12 @@ pub fn replay<D: Digester>(alloc: Global, seal: &Seal) -> Result<SpanClaim, Repl
 
 // The root of a tree with these pages in its open pages, once the registers are written into them.
 fn root_after<D: Digester>(tree: &PartTree, regs: &Regs, mut pages: OpenPages) -> Digest
-    requires shape { IsPart 18 (part tree.now) }
-    requires open { (n : ℕ) → is_some (page_in pages n) ≡ is_among (opened 0 (part tree.now)) n }
-    ensures { result ≡ root_of D.digest_of (put 0 (part tree.now) (page_of (full_of (flat (pages_in pages)) regs.now))) }
+    requires shape { IsPart HEIGHT (part tree.now) }
+    requires open { (n : ℕ) → is_some (page_in pages n) ≡ is_among (open_numbers 0 (part tree.now)) n }
+    ensures { result ≡ root_of D.digest_of (put_part 0 (part tree.now) (page_of (full_of (flat (pages_in pages)) regs.now))) }
 {
     write_registers(&mut pages, regs);
-    node_after::<D>(tree, &pages, 18, 0)
+    node_after::<D>(tree, &pages, HEIGHT, 0)
 }
 
 // Writes x1 to x31 into the register page, where it is open.
@@ -92,9 +93,9 @@ fn write_words(pages: &mut OpenPages, regs: Regs)
 // The digest of a node of a tree with these pages' bytes in its open pages.
 fn node_after<D: Digester>(tree: &PartTree, pages: &OpenPages, height: u32, index: u32) -> Digest
     requires shape { IsPart height (part tree.now) }
-    requires low { height ≤ 18 }
-    requires fits { index < 2 ^ (18 - height) }
-    ensures { result ≡ root_of D.digest_of (put index (part tree.now) (page_of (flat (pages_in pages.now)))) }
+    requires low { height ≤ HEIGHT }
+    requires fits { index < 2 ^ (HEIGHT - height) }
+    ensures { result ≡ root_of D.digest_of (put_part index (part tree.now) (page_of (flat (pages_in pages.now)))) }
 {
     match tree {
         PartTree::Pruned(digest) => *digest,

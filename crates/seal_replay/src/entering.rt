@@ -1,6 +1,7 @@
 //! Where a replay begins: the open pages of a seal's tree, and the registers in them.
 ghost use Rattle.std.specs.Prelude.{◌≡◌, ℕ, IfOk};
-ghost use Rattle.part_tree.specs.Part.{IsPart, opened, page_at};
+ghost use Rattle.part_tree.specs.declared.sizes.TheConstants.{HEIGHT};
+ghost use Rattle.part_tree.specs.Part.{IsPart, open_numbers, page_at};
 ghost use Rattle.part_tree.specs.Views.{part};
 ghost use Rattle.page_core.specs.Memories.{flat};
 ghost use Rattle.rv_step.specs.Opened.{page_in, pages_in};
@@ -18,8 +19,8 @@ pub(crate) fn open_pages(
     tree: &PartTree,
     numbers: &[u32],
 ) -> Result<OpenPages, AllocError>
-    requires shape { IsPart 18 (part tree.now) }
-    requires numbers { numbers.now ≡ opened 0 (part tree.now) }
+    requires shape { IsPart HEIGHT (part tree.now) }
+    requires numbers { numbers.now ≡ open_numbers 0 (part tree.now) }
     ensures { IfOk result (λ pages. (number : ℕ) → page_in pages number ≡ page_at 0 (part tree.now) number) }
 {
     let mut pages = OpenPages::new(alloc);

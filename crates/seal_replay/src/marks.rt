@@ -3,10 +3,11 @@ ghost use Rattle.std.specs.Prelude.{◌≡◌, ℕ, ◌<◌, ◌||◌, IfOk, rep
 ghost use Rattle.page_core.specs.Memory.{is_among};
 ghost use Rattle.rv_step.specs.Machine.{first_closed};
 
+use page_core::PAGES;
 use std::alloc::{AllocError, Global};
 
 // A mark for each page of a memory.
-const MARKS: usize = 262_144;
+const MARKS: usize = PAGES as usize;
 
 // Marks that are all unset.
 pub(crate) fn unmarked(alloc: Global) -> Result<Vec<bool>, AllocError>

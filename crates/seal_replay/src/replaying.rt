@@ -1,12 +1,13 @@
 ghost use Rattle.std.specs.Prelude.{◌≡◌, ℕ, ◌+◌, ◌-◌, ◌<◌, ◌%◌, ◌==◌, ◌⊎◌, [], length, IfOk, IfErr, Contains, Some, None};
 ghost use Rattle.page_core.specs.Memory.{is_among};
+ghost use Rattle.part_tree.specs.declared.sizes.TheConstants.{HEIGHT};
 ghost use Rattle.part_tree.specs.Part.{IsPart};
 ghost use Rattle.rv_step.specs.Machine.{first_closed, foot_of, step_of};
 ghost use Rattle.rv_step.specs.Tapes.{Log};
 ghost use Rattle.rv_step.specs.Stepping.{state_at};
 ghost use Rattle.seal_replay.specs.declared.stop.ReplayStop.TheVariants.{Memory};
-ghost use Rattle.seal_replay.specs.Replay.{opened_by, memory_of, enter, registers_in, stop_at, step_stop, first_below, stop_of};
-ghost use Rattle.seal_replay.specs.Replaying.{AreMarked, AreAlsoMarked, IsEvent, HasGone, HasEnded, EndsSo};
+ghost use Rattle.seal_replay.specs.Replay.{opened_by, seal_memory, enter, registers_in, stop_at, step_stop, first_below, stop_of};
+ghost use Rattle.seal_replay.specs.Replaying.{AreMarked, AreAlsoMarked, IsEvent, HasGone, HasEnded, IsReplayEnd};
 
 use crate::entering::{open_pages, registers};
 use crate::marks::{first_unmarked, mark_all, unmarked};
@@ -122,8 +123,8 @@ fn tape_of(alloc: Global, words: &WordList) -> Result<WordTape, AllocError>
 // Does a seal's steps over the pages that its tree opens, from the registers of the register page.
 pub(crate) fn replay_to_end(alloc: Global, seal: &Seal) -> Result<Replayed, ReplayStop>
     requires aligned { seal.now.pc % 4 ≡ 0 }
-    requires shape { IsPart 18 seal.now.tree }
-    ensures ended { IfOk result (λ replayed. EndsSo seal.now replayed) }
+    requires shape { IsPart HEIGHT seal.now.tree }
+    ensures ended { IfOk result (λ replayed. IsReplayEnd seal.now replayed) }
     ensures stop { IfErr result (λ stop. (stop ≡ Memory) ⊎ (stop_of seal.now ≡ Some stop)) }
 {
     let numbers = seal.tree.opened(alloc)?;

@@ -2,17 +2,17 @@
 use Rattle.std.proofs.Common.{◌≡◌, ◌≢◌, ℕ, ◌+◌, ◌-◌, ◌<◌, Bool, true, false, cond, ltb, List, [], ◌∷◌, ◌++◌, Option, Some, refl, sym, ap, ap₂, ◌∙◌, subst, arith, append_assoc}
 use Rattle.host_calls.specs.declared.call.AssumeCall.{AssumeCall}
 use Rattle.rv_step.specs.Machine.{State, Event, Went, Halted, Faulted, step_of, step_cost}
-use Rattle.rv_step.specs.Runs.{after, spent, ends_with, IsOutcome}
+use Rattle.rv_step.specs.Runs.{after, run_cost, ends_with, IsOutcome}
 use Rattle.rv_step.specs.Laws.{IsReady}
 use Rattle.rv_step.specs.declared.outcome.Outcome.TheVariants.{Halted as HaltedAt, OverLimit}
 use Rattle.rv_step.proofs.Runs.{after-add}
 use Rattle.claim_types.specs.declared.claim.Exit.{Exit}
 use Rattle.claim_types.specs.declared.claim.Exit.TheVariants.{Split, Halted as HaltedWith}
 use Rattle.claim_types.specs.Claims.{SpanClaim}
-use Rattle.lift_join.specs.Joins.{joined, join_both, chain_of}
+use Rattle.lift_join.specs.Joins.{joint_claim, join_both, chain_of}
 use Rattle.lift_join.proofs.Joining.{join_some}
 use Rattle.executor.specs.Segments.{Limits, lengths, total}
-use Rattle.executor.specs.Proving.{seal_from, seals_from, Ends, HasClaim}
+use Rattle.executor.specs.Proving.{seal_from, seals_from, EndsAfter, HasClaim}
 use Rattle.executor.specs.Laws.{AreLimits, AreLengths}
 use Rattle.executor.proofs.Cutting.{before_end, run_ready}
 use Rattle.executor.proofs.Covered.{segments_cover, done_to_outcome}
@@ -24,9 +24,9 @@ use Rattle.session.specs.Laws.{CutsChain, StretchesChain, SegmentsChain}
 record EndsLater (s : State) (k n : ℕ) (exit : Exit) (z : State) : Type 0 where
   state : State
   reached : after s k ≡ Some state
-  ends : Ends state n exit z
+  ends : EndsAfter state n exit z
 
-ends_later : (s : State) (k n : ℕ) (exit : Exit) (z : State) → 0 < n → Ends s (k + n) exit z → EndsLater s k n exit z
+ends_later : (s : State) (k n : ℕ) (exit : Exit) (z : State) → 0 < n → EndsAfter s (k + n) exit z → EndsLater s k n exit z
 ends_later s k n Split z some ends =
     let (v, reached) = before_end s (k + n) z k ends (omega arith) in
     record { state = v; reached = reached; ends = sym (after-add s k n v reached) ∙ ends }
@@ -42,7 +42,7 @@ module _ (H : List ℕ → List ℕ) where
       let x : SpanClaim = a.claim in
       let y : SpanClaim = b.claim in
       record {
-        claim = joined x y;
+        claim = joint_claim x y;
         is_claim = ap₂ join_both a.is_claim b.is_claim ∙ join_some x y a.claims.exit_is (a.claims.after ∙ sym b.claims.before);
         claims = record {
           before = a.claims.before;
@@ -56,12 +56,12 @@ module _ (H : List ℕ → List ℕ) where
   not_none : (n : ℕ) (ns : List ℕ) → n ∷ ns ≢ []
   not_none n ns e = cc
 
-  stretches_chain_to : (s : State) (ns : List ℕ) (exit : Exit) (z : State) → IsReady s → ns ≢ [] → AreLengths ns → Ends s (total ns) exit z
+  stretches_chain_to : (s : State) (ns : List ℕ) (exit : Exit) (z : State) → IsReady s → ns ≢ [] → AreLengths ns → EndsAfter s (total ns) exit z
       → HasClaim H (chain_of H (seals_from H (Some s) ns)) s exit z
   stretches_chain_to s [] exit z ready some good ends = absurd (some refl)
   stretches_chain_to s (k ∷ []) exit z ready some good ends =
       let whole : k + 0 ≡ k = omega arith in
-      stretches_claim H s k exit z ready good.0 (subst (λ (n : ℕ). Ends s n exit z) whole ends)
+      stretches_claim H s k exit z ready good.0 (subst (λ (n : ℕ). EndsAfter s n exit z) whole ends)
   stretches_chain_to s (k ∷ next ∷ ns) exit z ready some good ends =
       let positive : 0 < next = good.1.0 in
       let later = ends_later s k (next + total ns) exit z (omega (arith, positive)) ends in
@@ -78,7 +78,7 @@ module _ (H : List ℕ → List ℕ) where
 
 -- a run that halts does so in its last state
 halts : (limit : ℕ) (s : State) (code : ℕ) (ends : IsOutcome s limit (HaltedAt code)) → step_of ends.state ≡ Halted code
-halts limit s code ends = by_event (ltb limit (spent s ends.step + step_cost ends.state)) (step_of ends.state) ends.ended
+halts limit s code ends = by_event (ltb limit (run_cost s ends.step + step_cost ends.state)) (step_of ends.state) ends.ended
   where
     by_event : (b : Bool) (e : Event) → cond b (Some (OverLimit ends.step)) (ends_with ends.step ends.state.pc e) ≡ Some (HaltedAt code) → e ≡ Halted code
     by_event true e h = absurd (cc)

@@ -8,7 +8,7 @@ use Rattle.page_core.specs.Memories.{page_of}
 use Rattle.part_tree.proofs.Change.{root_of-agree}
 use Rattle.part_tree.proofs.Made.{part_agrees}
 use Rattle.rv_step.specs.Machine.{State, full}
-use Rattle.rv_step.specs.Runs.{start, after, touched, IsOutcome}
+use Rattle.rv_step.specs.Runs.{start, after, run_pages, IsOutcome}
 use Rattle.rv_step.specs.Laws.{IsReady}
 use Rattle.rv_step.specs.declared.outcome.Outcome.{Outcome}
 use Rattle.rv_step.specs.declared.outcome.Outcome.TheVariants.{Halted as HaltedAt, Faulted as FaultedAt, OverLimit as Over}
@@ -27,13 +27,13 @@ use Rattle.lift_join.specs.Joins.{chain_of}
 use Rattle.lift_join.specs.Chained.{Chained}
 use Rattle.lift_join.proofs.Inversion.{states_same}
 use Rattle.executor.specs.Segments.{Limits, lengths, total}
-use Rattle.executor.specs.Proving.{seal_from, seals_from, cut_seals, state_of, ClaimsRun}
-use Rattle.executor.specs.Cutting.{Cutting, Stands, IsCutting}
+use Rattle.executor.specs.Proving.{seal_from, seals_from, cut_seals, system_state, ClaimsRun}
+use Rattle.executor.specs.Cutting.{Cutting, CutsRun, IsCutting}
 use Rattle.executor.specs.Giving.{Gives}
 use Rattle.executor.specs.declared.executor.Next.{Next}
 use Rattle.executor.specs.Laws.{AreLimits, AreLengths}
 use Rattle.executor.proofs.Covered.{segments_cover}
-use Rattle.session.specs.Proved.{IsProved, Stops, IsHalt, StopsAt, seals_so_far, IsChained, MayFollow}
+use Rattle.session.specs.Proved.{IsProved, StopsSession, IsHalt, StopsAt, seals_so_far, IsChained, MayFollow}
 use Rattle.session.specs.declared.stop.SessionStop.{SessionStop}
 use Rattle.session.proofs.Chains.{stretches_chain, segments_chain, some_segments}
 
@@ -84,10 +84,10 @@ module _ (H : List ℕ → List ℕ) where
           let rest = later v h in
           record { state = rest.state; steps = rest.steps; reached = after-add s m (total (take n ns)) v e ∙ rest.reached; is = rest.is }
 
-  before_is : (s : State) (n : ℕ) → before_of H (seal_from H s n) ≡ state_of H s
+  before_is : (s : State) (n : ℕ) → before_of H (seal_from H s n) ≡ system_state H s
   before_is s n =
-      states_same (before_of H (seal_from H s n)) (state_of H s) refl
-      (root_of-agree H (page_of (full s)) 18 0 (seal_from H s n).tree (part_agrees H (page_of (full s)) (ascending (touched s n)) 18 0))
+      states_same (before_of H (seal_from H s n)) (system_state H s) refl
+      (root_of-agree H (page_of (full s)) 18 0 (seal_from H s n).tree (part_agrees H (page_of (full s)) (ascending (run_pages s n)) 18 0))
 
   -- ---- what is joined after the first n cuts of the run from r
   pub record SoFar (l : Limits) (r : State) (n : ℕ) (whole : Option Chained) : Type 0 where
@@ -136,10 +136,10 @@ module _ (H : List ℕ → List ℕ) where
   no_seals r [] e = refl
   no_seals r (m ∷ ns) e = absurd (cc)
 
-  pub stops : (l : Limits) (r : State) (outcome : Outcome) (stop : SessionStop) → length (lengths l r) ≤ 65535 → IsOutcome r l.limit outcome → StopsAt outcome stop → Stops l r stop
+  pub stops : (l : Limits) (r : State) (outcome : Outcome) (stop : SessionStop) → length (lengths l r) ≤ 65535 → IsOutcome r l.limit outcome → StopsAt outcome stop → StopsSession l r stop
   stops l r (HaltedAt code) stop few ends e = absurd e
-  stops l r (FaultedAt fault pc step) stop few ends e = subst (Stops l r) (sym e) (few, ends)
-  stops l r (Over step) stop few ends e = subst (Stops l r) (sym e) (few, ends)
+  stops l r (FaultedAt fault pc step) stop few ends e = subst (StopsSession l r) (sym e) (few, ends)
+  stops l r (Over step) stop few ends e = subst (StopsSession l r) (sym e) (few, ends)
 
   module _ (l : Limits) (r : State) (n : ℕ) (are : AreLimits l) (ready : IsReady r) (all : n ≡ length (lengths l r)) where
     all_seals : (whole : Option Chained) → SoFar l r n whole → seals_so_far whole ≡ cut_seals H l r
@@ -171,12 +171,12 @@ module _ (H : List ℕ → List ℕ) where
   -- the executor cuts this run under these limits, and what it gave is joined
   pub record IsProving (l : Limits) (image : Image) (words : List ℕ) (c : Cutting) (whole : Option Chained) : Type 0 where
     pub limits : c.limits ≡ l
-    pub stands : Stands c image words
+    pub stands : CutsRun c image words
     pub so_far : SoFar l (start image words) c.number whole
 
   -- what it gives next is the next cut of that run, or its end
   pub given : {D : Type 0} {l : Limits} {image : Image} {words : List ℕ} {c : Cutting} {whole : Option Chained} {next known : Next D} (after : ℕ) → IsProving l image words c whole
-      → ((image : Image) (words : List ℕ) → Stands c image words → Gives H c.limits (start image words) c.number after next) → next ≡ known → Gives H l (start image words) c.number after known
+      → ((image : Image) (words : List ℕ) → CutsRun c image words → Gives H c.limits (start image words) c.number after next) → next ≡ known → Gives H l (start image words) c.number after known
   given {image = image} {words = words} {c = c} {next = next} {known = known} after proving gives is =
       subst (λ (m : Limits). Gives H m (start image words) c.number after known) proving.limits
       (subst (Gives H c.limits (start image words) c.number after) is (gives image words proving.stands))

@@ -5,7 +5,7 @@ use Rattle.receipt_types.specs.Limits.{AllSealLimits}
 use Rattle.rv_step.specs.Machine.{State}
 use Rattle.rv_step.specs.Runs.{IsOutcome}
 use Rattle.rv_step.specs.declared.outcome.Outcome.{Outcome}
-use Rattle.rv_step.specs.declared.outcome.Outcome.TheVariants.{Halted as HaltedWith, Faulted as FaultedAt, OverLimit as Over}
+use Rattle.rv_step.specs.declared.outcome.Outcome.TheVariants.{Halted as HaltedAt, Faulted as FaultedAt, OverLimit as Over}
 use Rattle.claim_types.specs.declared.claim.Exit.TheVariants.{Split, Halted}
 use Rattle.seal_replay.specs.Claiming.{before_of}
 use Rattle.lift_join.specs.Joins.{chain_of}
@@ -14,23 +14,24 @@ use Rattle.executor.specs.Segments.{Limits, lengths}
 use Rattle.executor.specs.Proving.{cut_seals, ClaimsRun}
 use Rattle.session.specs.declared.stop.SessionStop.{SessionStop}
 use Rattle.session.specs.declared.stop.SessionStop.TheVariants.{TooManySeals, Faulted, OverLimit, Memory}
+use Rattle.receipt_types.specs.declared.sizes.TheConstants.{MOST_SEALS}
 
 -- the run from r halts in at most 65,535 segments, these are their seals, within the limits of a receipt, and this is its claim
 pub record IsProved (H : List ℕ → List ℕ) (l : Limits) (r : State) (proved : Chained) : Type 0 where
-  pub few : length (lengths l r) ≤ 65535
+  pub few : length (lengths l r) ≤ MOST_SEALS
   pub seals : proved.seals ≡ cut_seals H l r
   pub limits : AllSealLimits proved.seals
   pub code : ℕ
-  pub ends : IsOutcome r l.limit (HaltedWith code)
+  pub ends : IsOutcome r l.limit (HaltedAt code)
   pub claims : ClaimsRun H proved.claim r (Halted code) ends.state
   pub chained : chain_of H proved.seals ≡ Some proved.claim
 
 -- it stops so: it has more segments, which comes first, or its outcome is no halt
-abbrev pub Stops : Limits → State → SessionStop → Type 0
-Stops l r TooManySeals = 65535 < length (lengths l r)
-Stops l r (Faulted fault pc step) = (length (lengths l r) ≤ 65535) × IsOutcome r l.limit (FaultedAt fault pc step)
-Stops l r (OverLimit step) = (length (lengths l r) ≤ 65535) × IsOutcome r l.limit (Over step)
-Stops l r Memory = ⊤
+abbrev pub StopsSession : Limits → State → SessionStop → Type 0
+StopsSession l r TooManySeals = MOST_SEALS < length (lengths l r)
+StopsSession l r (Faulted fault pc step) = (length (lengths l r) ≤ MOST_SEALS) × IsOutcome r l.limit (FaultedAt fault pc step)
+StopsSession l r (OverLimit step) = (length (lengths l r) ≤ MOST_SEALS) × IsOutcome r l.limit (Over step)
+StopsSession l r Memory = ⊤
 
 -- the seals of what is proved so far, if anything is
 abbrev pub seals_so_far : Option Chained → List Seal
@@ -47,11 +48,11 @@ MayFollow H proved seal = IsChained H proved × (proved.claim.exit ≡ Split) ×
 
 -- ---- an outcome
 abbrev pub IsHalt : Outcome → Type 0
-IsHalt (HaltedWith code) = ⊤
+IsHalt (HaltedAt code) = ⊤
 IsHalt outcome = ⊥
 
 -- the stop of a session whose run ends so
 abbrev pub StopsAt : Outcome → SessionStop → Type 0
-StopsAt (HaltedWith code) stop = ⊥
+StopsAt (HaltedAt code) stop = ⊥
 StopsAt (FaultedAt fault pc step) stop = stop ≡ Faulted fault pc step
 StopsAt (Over step) stop = stop ≡ OverLimit step

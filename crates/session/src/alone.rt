@@ -2,7 +2,7 @@ ghost use Rattle.std.specs.Prelude.{◌≡◌, [], ◌∷◌, ◌++◌, Some, is
 ghost use Rattle.elf_image.specs.Loaded.{image_of};
 ghost use Rattle.rv_step.specs.Runs.{start};
 ghost use Rattle.receipt_types.specs.Limits.{SealLimits};
-ghost use Rattle.session.specs.Proved.{IsProved, Stops, IsHalt, StopsAt, seals_so_far, IsChained, MayFollow};
+ghost use Rattle.session.specs.Proved.{IsProved, StopsSession, IsHalt, StopsAt, seals_so_far, IsChained, MayFollow};
 ghost use Rattle.session.specs.declared.stop.SessionStop.TheVariants.{Memory};
 
 use crate::stop::SessionStop;
@@ -25,7 +25,7 @@ pub fn prove_alone<D: Digester>(
     limits: Limits,
 ) -> Result<Joined<D>, SessionStop>
     ensures proved { IfOk result (λ joined. IsProved D.digest_of limits (start (image_of image) words.items) joined) }
-    ensures stop { IfErr result (λ stop. Stops limits (start (image_of image) words.items) stop) }
+    ensures stop { IfErr result (λ stop. StopsSession limits (start (image_of image) words.items) stop) }
 {
     let mut executor = Executor::<D>::new(alloc, image, words, limits)?;
     let mut whole = None;

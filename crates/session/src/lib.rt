@@ -2,9 +2,11 @@
 #![tactic(auto)]
 
 mod alone;
+mod gate;
 mod laws;
 mod stop;
 
 pub use alone::prove_alone;
+pub use gate::{Gate, NoGate};
 pub use laws::segments_chain;
 pub use stop::SessionStop;

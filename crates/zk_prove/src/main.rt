@@ -2,20 +2,12 @@
 //! the receipt of such a run.
 #![tactic(auto)]
 
-use cli_text::Status;
+use command_frame::words;
 use digest_core::ShaDigester;
 use outside::{DirDesk, StdSink};
-use prove_calls::{NoGate, prove_top};
-use std::env;
+use prove_calls::prove_top;
+use session::NoGate;
 use std::process::ExitCode;
-
-// The words after the program's name; words that are no text are no words.
-fn words(rt: &HostRuntime) -> Result<Vec<String>, Status> {
-    let Ok(all) = env::args(rt) else {
-        return Ok(Vec::new(rt.alloc()));
-    };
-    all.skip(1).collect(rt.alloc()).map_err(|_| Status::Memory)
-}
 
 fn main(rt: HostRuntime) -> ExitCode {
     let status = match words(&rt) {

@@ -5,7 +5,7 @@ use Rattle.std.proofs.lemmas.Bool.Decides.{nat_tests}
 use Rattle.rv_isa.specs.declared.fault.Fault.{Fault}
 use Rattle.host_calls.specs.declared.call.Call.{Call}
 use Rattle.host_calls.specs.declared.call.Call.TheVariants.{Read, Commit, Assume}
-use Rattle.host_calls.specs.Calls.{fits_below, within, checked, read_call_of, ranges_of, takes}
+use Rattle.host_calls.specs.Calls.{fits_below, within, call_or_fault, read_call_of, ranges_of, takes}
 
 abbrev pub IsFew : Result Call Fault → Type 0
 IsFew (Ok call) = takes call ≤ 256
@@ -16,8 +16,8 @@ unfolding within
 within_few [] call few = few
 within_few (r ∷ rs) call few = cond_both (fits_below r.0 r.1) _ _ IsFew (λ e. within_few rs call few) (λ e. tt)
 
-checked_few : (number : ℕ) (good : Bool) (call : Call) → (IsTrue good → takes call ≤ 256) → IsFew (checked number good call)
-unfolding checked
+checked_few : (number : ℕ) (good : Bool) (call : Call) → (IsTrue good → takes call ≤ 256) → IsFew (call_or_fault number good call)
+unfolding call_or_fault
 checked_few number good call few = cond_both good _ _ IsFew (λ e. within_few (ranges_of call) call (few e)) (λ e. tt)
 
 pub read_call_few : (x : List ℕ) → IsFew (read_call_of x)

@@ -1,10 +1,10 @@
 //! Digests of bytes, states and claims.
 
-use crate::running::say;
-use crate::shelf::Shelf;
+use crate::lines::{Hex, Lines};
+use crate::shelf::{Shelf, copied};
 use crate::stop::RowStop;
-use crate::words::{decimal, hex, hexadecimal};
-use byte_cursor::{ByteList, ItemList, WordList};
+use crate::words::{decimal, hexadecimal, named, split_at_mark};
+use byte_cursor::{ItemList, WordList};
 use claim_types::{
     Exit, SpanClaim, State, claim_digest, conditional_digest, ok_claim_digest, state_digest,
 };
@@ -15,69 +15,137 @@ use std::alloc::Global;
 // A list of digests.
 type DigestList = ItemList<Digest>;
 
-/// Prints the digest that the words ask for.
-pub(crate) fn say_digest<D: Digester, R: Print + AllocGlobal>(
-    rt: &R,
-    shelf: &Shelf,
-    words: &[&str],
-) -> Result<(), RowStop> {
-    let digest = digest_of::<D>(rt.alloc(), shelf, words)?;
-    say(rt, hex(rt.alloc(), digest.bytes().as_slice())?.as_str())
+// What a digest is of.
+#[derive(Clone, Copy)]
+enum Subject {
+    Bytes,
+    Node,
+    Tagged,
+    TaggedList,
+    State,
+    OkClaim,
+    Claim,
+    Conditional,
 }
 
-fn digest_of<D: Digester>(alloc: Global, shelf: &Shelf, words: &[&str]) -> Result<Digest, RowStop> {
-    match words {
-        ["hash", name] => Ok(hash::<D>(shelf.bytes(name).ok_or(RowStop::NoRow)?)),
-        ["node", left, right] => Ok(node::<D>(&kept(shelf, left)?, &kept(shelf, right)?)),
-        ["tagged", tag, parts @ ..] => tagged_parts::<D>(alloc, shelf, tag, parts),
-        ["tagged-list", tag, names @ ..] => tagged_items::<D>(alloc, shelf, tag, names),
-        ["state", state] => Ok(state_digest::<D>(&state_of(shelf, state)?)),
-        ["ok", image, journal] => Ok(ok_claim_digest::<D>(
-            &kept(shelf, image)?,
-            &kept(shelf, journal)?,
-        )),
-        ["claim", parts @ ..] => Ok(claim_digest::<D>(&claim_of(alloc, shelf, parts)?)),
-        ["conditional", parts @ ..] => Ok(conditional_digest::<D>(&claim_of(alloc, shelf, parts)?)),
-        _ => Err(RowStop::NoRow),
+static SUBJECTS: [(&str, Subject); 8] = [
+    ("hash", Subject::Bytes),
+    ("node", Subject::Node),
+    ("tagged", Subject::Tagged),
+    ("tagged-list", Subject::TaggedList),
+    ("state", Subject::State),
+    ("ok", Subject::OkClaim),
+    ("claim", Subject::Claim),
+    ("conditional", Subject::Conditional),
+];
+
+/// Adds the digest that the words ask for, the first of which says what it is of.
+pub(crate) fn add_digest<D: Digester>(
+    alloc: Global,
+    shelf: &Shelf,
+    out: &mut Lines,
+    subject: &str,
+    words: &[&str],
+) -> Result<(), RowStop> {
+    let digest = digest_of::<D>(alloc, shelf, named(&SUBJECTS, subject)?, words)?;
+    out.add(Hex(digest.bytes().as_slice()))
+}
+
+fn digest_of<D: Digester>(
+    alloc: Global,
+    shelf: &Shelf,
+    subject: Subject,
+    words: &[&str],
+) -> Result<Digest, RowStop> {
+    match subject {
+        Subject::Bytes => hash_of::<D>(shelf, words),
+        Subject::Node => node_of::<D>(shelf, words),
+        Subject::Tagged => tagged_parts::<D>(alloc, shelf, words),
+        Subject::TaggedList => tagged_items::<D>(alloc, shelf, words),
+        Subject::State => state_of::<D>(shelf, words),
+        Subject::OkClaim => ok_claim_of::<D>(shelf, words),
+        Subject::Claim => Ok(claim_digest::<D>(&claim_of(alloc, shelf, words)?)),
+        Subject::Conditional => Ok(conditional_digest::<D>(&claim_of(alloc, shelf, words)?)),
     }
 }
 
 // The digest of which a file has the bytes.
 fn kept(shelf: &Shelf, name: &str) -> Result<Digest, RowStop> {
-    let bytes = shelf.bytes(name).ok_or(RowStop::NoRow)?;
+    let bytes = shelf.bytes(name)?;
     if bytes.len() != 32 {
         return Err(RowStop::NoRow);
     }
     Ok(Digest::of(bytes))
 }
 
+fn hash_of<D: Digester>(shelf: &Shelf, words: &[&str]) -> Result<Digest, RowStop> {
+    let [name] = words else {
+        return Err(RowStop::NoRow);
+    };
+    Ok(hash::<D>(shelf.bytes(name)?))
+}
+
+fn node_of<D: Digester>(shelf: &Shelf, words: &[&str]) -> Result<Digest, RowStop> {
+    let [left, right] = words else {
+        return Err(RowStop::NoRow);
+    };
+    Ok(node::<D>(&kept(shelf, left)?, &kept(shelf, right)?))
+}
+
+fn state_of<D: Digester>(shelf: &Shelf, words: &[&str]) -> Result<Digest, RowStop> {
+    let [state] = words else {
+        return Err(RowStop::NoRow);
+    };
+    Ok(state_digest::<D>(&state_in(shelf, state)?))
+}
+
+fn ok_claim_of<D: Digester>(shelf: &Shelf, words: &[&str]) -> Result<Digest, RowStop> {
+    let [image, journal] = words else {
+        return Err(RowStop::NoRow);
+    };
+    Ok(ok_claim_digest::<D>(&kept(shelf, image)?, &kept(shelf, journal)?))
+}
+
 // A tag, digests as `$NAME`, and then words.
 fn tagged_parts<D: Digester>(
     alloc: Global,
     shelf: &Shelf,
-    tag: &str,
-    parts: &[&str],
+    words: &[&str],
 ) -> Result<Digest, RowStop> {
+    let [tag, parts @ ..] = words else {
+        return Err(RowStop::NoRow);
+    };
     let mut downs = DigestList::new(alloc);
-    let mut words = WordList::new(alloc);
+    let mut numbers = WordList::new(alloc);
     for part in parts {
-        match part.strip_prefix('$') {
-            Some(name) => downs.push(kept(shelf, name)?)?,
-            None => words.push(hexadecimal(part)?)?,
-        }
+        push_part(shelf, &mut downs, &mut numbers, part)?;
     }
     if downs.len() >= 65_536 {
         return Err(RowStop::NoRow);
     }
-    Ok(tagged::<D>(tag, downs.as_slice(), words.as_slice()))
+    Ok(tagged::<D>(tag, downs.as_slice(), numbers.as_slice()))
+}
+
+fn push_part(
+    shelf: &Shelf,
+    downs: &mut DigestList,
+    numbers: &mut WordList,
+    part: &str,
+) -> Result<(), RowStop> {
+    match part.strip_prefix('$') {
+        Some(name) => Ok(downs.push(kept(shelf, name)?)?),
+        None => Ok(numbers.push(hexadecimal(part)?)?),
+    }
 }
 
 fn tagged_items<D: Digester>(
     alloc: Global,
     shelf: &Shelf,
-    tag: &str,
-    names: &[&str],
+    words: &[&str],
 ) -> Result<Digest, RowStop> {
+    let [tag, names @ ..] = words else {
+        return Err(RowStop::NoRow);
+    };
     let mut items = DigestList::new(alloc);
     for name in names {
         items.push(kept(shelf, name)?)?;
@@ -86,8 +154,8 @@ fn tagged_items<D: Digester>(
 }
 
 // `PC:ROOT`, the pc in hexadecimal and the file of the root.
-fn state_of(shelf: &Shelf, text: &str) -> Result<State, RowStop> {
-    let (pc, root) = text.split_once(':').ok_or(RowStop::NoRow)?;
+fn state_in(shelf: &Shelf, text: &str) -> Result<State, RowStop> {
+    let (pc, root) = split_at_mark(text, ':')?;
     Ok(State {
         pc: hexadecimal(pc)?,
         root: kept(shelf, root)?,
@@ -107,13 +175,14 @@ fn claim_of(alloc: Global, shelf: &Shelf, parts: &[&str]) -> Result<SpanClaim, R
     let [before, after, exit, journal, calls @ ..] = parts else {
         return Err(RowStop::NoRow);
     };
-    let mut bytes = ByteList::new(alloc);
-    bytes.extend(shelf.bytes(journal).ok_or(RowStop::NoRow)?)?;
+    let (before, after) = (state_in(shelf, before)?, state_in(shelf, after)?);
+    let exit = exit_of(exit)?;
+    let journal = copied(alloc, shelf.bytes(journal)?)?;
     Ok(SpanClaim {
-        before: state_of(shelf, before)?,
-        after: state_of(shelf, after)?,
-        exit: exit_of(exit)?,
-        journal: bytes,
+        before,
+        after,
+        exit,
+        journal,
         calls: calls_of(alloc, shelf, calls)?,
     })
 }
@@ -122,11 +191,15 @@ fn claim_of(alloc: Global, shelf: &Shelf, parts: &[&str]) -> Result<SpanClaim, R
 fn calls_of(alloc: Global, shelf: &Shelf, texts: &[&str]) -> Result<CallList, RowStop> {
     let mut calls = CallList::new(alloc);
     for text in texts {
-        let (image, journal) = text.split_once(':').ok_or(RowStop::NoRow)?;
-        calls.push(AssumeCall {
-            image: kept(shelf, image)?,
-            journal: kept(shelf, journal)?,
-        })?;
+        calls.push(call_of(shelf, text)?)?;
     }
     Ok(calls)
+}
+
+fn call_of(shelf: &Shelf, text: &str) -> Result<AssumeCall, RowStop> {
+    let (image, journal) = split_at_mark(text, ':')?;
+    Ok(AssumeCall {
+        image: kept(shelf, image)?,
+        journal: kept(shelf, journal)?,
+    })
 }

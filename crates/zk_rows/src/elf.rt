@@ -1,6 +1,7 @@
 ghost use Rattle.std.specs.Prelude.{IsTrue};
 ghost use Rattle.guest_gen.specs.Assembly.{AreValid};
 
+use crate::machine::words_in;
 use crate::stop::RowStop;
 use byte_cursor::ByteList;
 use guest_gen::{GuestLine, assemble};
@@ -9,20 +10,27 @@ use std::alloc::Global;
 
 /// The ELF file of a guest whose code stands at 0x1000 and begins there: whole words, 1 to 65,536 of them.
 pub(crate) fn elf_of(alloc: Global, code: &[u8]) -> Result<ByteList, RowStop> {
-    let mut lines = Vec::new(alloc);
-    for four in code.chunks(4) {
-        match four {
-            [first, second, third, fourth] => {
-                lines.push(line_of(u32::from_le_bytes([*first, *second, *third, *fourth])))?;
-            }
-            _ => return Err(RowStop::NoRow),
-        }
+    if code.len() % 4 != 0 {
+        return Err(RowStop::NoRow);
     }
-    let lines = lines.as_slice();
+    assembled(alloc, lines_of(alloc, code)?.as_slice())
+}
+
+fn assembled(alloc: Global, lines: &[GuestLine]) -> Result<ByteList, RowStop> {
     if lines.is_empty() || lines.len() > 65_536 || !are_valid(lines) {
         return Err(RowStop::NoRow);
     }
     Ok(assemble(alloc, lines)?)
+}
+
+// The lines of the words that bytes spell.
+fn lines_of(alloc: Global, code: &[u8]) -> Result<Vec<GuestLine>, RowStop> {
+    let words = words_in(alloc, code)?;
+    let mut lines = Vec::new(alloc);
+    for word in words.as_slice() {
+        lines.push(line_of(*word))?;
+    }
+    Ok(lines)
 }
 
 // The line of a word: its instruction, where there is one that is encoded as this word again.

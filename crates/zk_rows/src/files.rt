@@ -1,95 +1,116 @@
 //! Calls of a desk and of a sink in memory.
 
-use crate::running::{desk_of, listed, say};
+use crate::lines::{Hex, Lines};
+use crate::running::{desk_of, listed};
 use crate::shelf::Shelf;
 use crate::stop::RowStop;
-use crate::words::{decimal, hex};
+use crate::words::{decimal, split_at_mark};
 use digest_core::{ShaDigester, hash};
 use outside::{Desk, MemDesk, MemSink, Sink, read_all};
+use std::alloc::Global;
 use std::str;
 
-/// Makes these calls of a desk that holds the files that they name, of which the one of this number fails, and prints what
-/// each answers.
-pub(crate) fn desk_calls<R: Print + AllocGlobal>(
-    rt: &R,
+/// Makes these calls of a desk that holds the files that they name, of which the one of the first number fails, and adds
+/// what each answers.
+pub(crate) fn desk_calls(
+    alloc: Global,
     shelf: &Shelf,
-    fail: &str,
-    calls: &[&str],
+    out: &mut Lines,
+    words: &[&str],
 ) -> Result<(), RowStop> {
-    let alloc = rt.alloc();
+    let [fail, calls @ ..] = words else {
+        return Err(RowStop::NoRow);
+    };
+    let names = names_of(alloc, calls)?;
+    let mut desk = desk_of(alloc, shelf, names.as_slice(), decimal(fail)?)?;
+    for call in calls {
+        desk_call(alloc, out, &mut desk, call)?;
+    }
+    Ok(())
+}
+
+// The names of the files of calls.
+fn names_of(alloc: Global, calls: &[&str]) -> Result<Vec<String>, RowStop> {
     let mut names = Vec::new(alloc);
     for call in calls {
         let (_, name, _) = parts_of(call)?;
         names.push(String::from_str(alloc, name)?)?;
     }
-    let mut desk = desk_of(alloc, shelf, names.as_slice(), decimal(fail)?)?;
-    for call in calls {
-        desk_call(rt, &mut desk, call)?;
-    }
-    Ok(())
+    Ok(names)
 }
 
 // The kind of a call, the name of its file, and the rest.
 fn parts_of<'a>(call: &'a str) -> Result<(&'a str, &'a str, &'a str), RowStop> {
-    let (kind, rest) = call.split_once(':').ok_or(RowStop::NoRow)?;
+    let (kind, rest) = split_at_mark(call, ':')?;
     match rest.split_once(':') {
         Some((name, rest)) => Ok((kind, name, rest)),
         None => Ok((kind, rest, "")),
     }
 }
 
-// Makes and prints a call.
-fn desk_call<R: Print + AllocGlobal>(
-    rt: &R,
+// Makes a call, and adds what it answers.
+fn desk_call(
+    alloc: Global,
+    out: &mut Lines,
     desk: &mut MemDesk,
     call: &str,
 ) -> Result<(), RowStop> {
-    let alloc = rt.alloc();
     let (kind, name, rest) = parts_of(call)?;
     match kind {
-        "read" => match read_all(alloc, desk, name, decimal(rest)? as u64) {
-            Ok(bytes) => say_bytes(rt, call, bytes.as_slice()),
-            Err(stop) => say(rt, format!(in alloc; "{call} {stop:?}")?.as_str()),
-        },
-        "write" => say_done(rt, call, desk.write(name, rest.as_bytes()).is_ok()),
-        "held" => match desk.held(name) {
-            Some(bytes) => say_bytes(rt, call, bytes),
-            None => say(rt, format!(in alloc; "{call} absent")?.as_str()),
-        },
+        "read" => read_file(alloc, out, desk, call, name, decimal(rest)?),
+        "write" => add_done(out, call, desk.write(name, rest.as_bytes()).is_ok()),
+        "held" => add_held(out, call, desk.held(name)),
         _ => Err(RowStop::NoRow),
     }
 }
 
-// Prints the length and the SHA-256 of bytes.
-fn say_bytes<R: Print + AllocGlobal>(rt: &R, call: &str, bytes: &[u8]) -> Result<(), RowStop> {
-    let alloc = rt.alloc();
-    let length = bytes.len();
-    let digits = hex(alloc, hash::<ShaDigester>(bytes).bytes().as_slice())?;
-    say(rt, format!(in alloc; "{call} {length} {digits}")?.as_str())
-}
-
-// Prints whether a call was done.
-fn say_done<R: Print + AllocGlobal>(rt: &R, call: &str, is_done: bool) -> Result<(), RowStop> {
-    let word = if is_done { "done" } else { "failed" };
-    say(rt, format!(in rt.alloc(); "{call} {word}")?.as_str())
-}
-
-/// Puts these texts into a sink of this room, of which the put of this number fails, and prints what each answers, and what
-/// the sink has taken.
-pub(crate) fn sink_puts<R: Print + AllocGlobal>(
-    rt: &R,
-    room: &str,
-    fail: &str,
-    texts: &[&str],
+fn read_file(
+    alloc: Global,
+    out: &mut Lines,
+    desk: &mut MemDesk,
+    call: &str,
+    name: &str,
+    limit: u32,
 ) -> Result<(), RowStop> {
-    let alloc = rt.alloc();
+    match read_all(alloc, desk, name, limit as u64) {
+        Ok(bytes) => add_held(out, call, Some(bytes.as_slice())),
+        Err(stop) => out.add(format_args!("{call} {stop:?}")),
+    }
+}
+
+// Adds the length and the SHA-256 of bytes.
+fn add_held(out: &mut Lines, call: &str, bytes: Option<&[u8]>) -> Result<(), RowStop> {
+    let Some(bytes) = bytes else {
+        return out.add(format_args!("{call} absent"));
+    };
+    let digest = hash::<ShaDigester>(bytes);
+    let (length, digits) = (bytes.len(), Hex(digest.bytes().as_slice()));
+    out.add(format_args!("{call} {length} {digits}"))
+}
+
+// Adds whether a call was done.
+fn add_done(out: &mut Lines, call: &str, is_done: bool) -> Result<(), RowStop> {
+    let word = if is_done { "done" } else { "failed" };
+    out.add(format_args!("{call} {word}"))
+}
+
+/// Puts texts into a sink of this room, of which the put of this number fails, and adds what each answers, and what the
+/// sink has taken.
+pub(crate) fn sink_puts(alloc: Global, out: &mut Lines, words: &[&str]) -> Result<(), RowStop> {
+    let [room, fail, texts @ ..] = words else {
+        return Err(RowStop::NoRow);
+    };
     let mut sink = MemSink::new(alloc, decimal(room)?, listed(alloc, decimal(fail)?)?)?;
     for text in texts {
-        let bytes = if *text == "''" { "" } else { *text };
-        say_done(rt, text, sink.put(bytes.as_bytes()).is_ok())?;
+        put_text(out, &mut sink, text)?;
     }
     match str::from_utf8(sink.taken()) {
-        Ok(taken) => say(rt, format!(in alloc; "taken {taken}")?.as_str()),
+        Ok(taken) => out.add(format_args!("taken {taken}")),
         Err(_) => Err(RowStop::NoRow),
     }
+}
+
+fn put_text(out: &mut Lines, sink: &mut MemSink, text: &str) -> Result<(), RowStop> {
+    let bytes = if text == "''" { "" } else { text };
+    add_done(out, text, sink.put(bytes.as_bytes()).is_ok())
 }

@@ -1,12 +1,14 @@
 //! Steps of a machine that a row describes.
 
 use crate::calls::set_register;
+use crate::lines::{Hex, Lines};
 use crate::pages::page_of;
-use crate::running::say;
 use crate::shelf::Shelf;
 use crate::stop::RowStop;
-use crate::words::{decimal, hex, hexadecimal};
+use crate::words::{decimal, hexadecimal};
 use byte_cursor::WordList;
+use host_calls::AssumeCall;
+use page_core::{PAGES, Page};
 use rv_isa::Regs;
 use rv_step::{Core, Event, OpenPages, RunLog, StepStop, WordTape, look, step, step_within};
 use std::alloc::{AllocError, Global};
@@ -21,9 +23,9 @@ struct Machine {
 }
 
 impl Machine {
-    // No open page, the pc 0x1000, registers of zero and no input, but for these settings.
-    fn new(alloc: Global, shelf: &Shelf, settings: &[&str]) -> Result<Machine, RowStop> {
-        let mut machine = Machine {
+    // No open page, the pc 0x1000, registers of zero and no input.
+    fn new(alloc: Global) -> Machine {
+        Machine {
             core: Core {
                 pc: 0x1000,
                 regs: Regs::new(),
@@ -31,7 +33,12 @@ impl Machine {
             pages: OpenPages::new(alloc),
             tape: WordTape::new(WordList::new(alloc)),
             log: RunLog::new(alloc),
-        };
+        }
+    }
+
+    // Such a machine, but for these settings.
+    fn with(alloc: Global, shelf: &Shelf, settings: &[&str]) -> Result<Machine, RowStop> {
+        let mut machine = Machine::new(alloc);
         for setting in settings {
             machine.set(alloc, shelf, setting)?;
         }
@@ -43,27 +50,50 @@ impl Machine {
         let Some((key, value)) = setting.split_once('=') else {
             return self.open(decimal(setting)?, &[]);
         };
-        if key == "pc" {
-            self.core.pc = hexadecimal(value)?;
-            return Ok(());
+        match key {
+            "pc" => self.set_pc(value),
+            "input" => self.set_input(alloc, shelf.bytes(value)?),
+            _ => self.set_other(shelf, key, value),
         }
-        if key == "input" {
-            let bytes = shelf.bytes(value).ok_or(RowStop::NoRow)?;
-            self.tape = WordTape::new(words_in(alloc, bytes)?);
-            return Ok(());
-        }
+    }
+
+    fn set_pc(&mut self, value: &str) -> Result<(), RowStop> {
+        self.core.pc = hexadecimal(value)?;
+        Ok(())
+    }
+
+    fn set_input(&mut self, alloc: Global, bytes: &[u8]) -> Result<(), RowStop> {
+        self.tape = WordTape::new(words_in(alloc, bytes)?);
+        Ok(())
+    }
+
+    // A register or a page.
+    fn set_other(&mut self, shelf: &Shelf, key: &str, value: &str) -> Result<(), RowStop> {
         if key.starts_with('x') {
             return set_register(&mut self.core.regs, key, value);
         }
-        self.open(decimal(key)?, shelf.bytes(value).ok_or(RowStop::NoRow)?)
+        self.open(decimal(key)?, shelf.bytes(value)?)
     }
 
     // Opens a page that begins with these bytes.
     fn open(&mut self, number: u32, bytes: &[u8]) -> Result<(), RowStop> {
-        if number >= 262_144 {
+        if number >= PAGES {
             return Err(RowStop::NoRow);
         }
         Ok(self.pages.open(number, &page_of(bytes)?)?)
+    }
+
+    // Does the next step.
+    fn step(&mut self) -> Result<Result<Event, StepStop>, RowStop> {
+        if self.core.pc % 4 != 0 {
+            return Err(RowStop::NoRow);
+        }
+        Ok(step(
+            &mut self.core,
+            &mut self.pages,
+            &mut self.tape,
+            &mut self.log,
+        ))
     }
 }
 
@@ -78,8 +108,81 @@ pub(crate) fn words_in(alloc: Global, bytes: &[u8]) -> Result<WordList, AllocErr
     Ok(words)
 }
 
-// What `look` tells of the next step of a machine.
-fn looked(alloc: Global, machine: &Machine) -> Result<String, RowStop> {
+// Which steps a machine does.
+#[derive(Clone, Copy)]
+enum Steps {
+    // One, after `look`.
+    Once,
+    // So many. A page that is missed is opened, of zeros.
+    Often(u32),
+    // One within this room.
+    Within(u32),
+}
+
+/// Adds what `look` tells of the next step of a machine, what the step comes to, and what it changed.
+pub(crate) fn step_once(
+    alloc: Global,
+    shelf: &Shelf,
+    out: &mut Lines,
+    settings: &[&str],
+) -> Result<(), RowStop> {
+    add_machine(alloc, shelf, out, Steps::Once, settings)
+}
+
+/// Does so many steps of a machine, and adds what each came to, and what they changed. A page that is missed is opened, of
+/// zeros.
+pub(crate) fn step_often(
+    alloc: Global,
+    shelf: &Shelf,
+    out: &mut Lines,
+    words: &[&str],
+) -> Result<(), RowStop> {
+    let [count, settings @ ..] = words else {
+        return Err(RowStop::NoRow);
+    };
+    add_machine(alloc, shelf, out, Steps::Often(decimal(count)?), settings)
+}
+
+/// Adds what the next step of a machine comes to within this room, and what it changed.
+pub(crate) fn step_in(
+    alloc: Global,
+    shelf: &Shelf,
+    out: &mut Lines,
+    words: &[&str],
+) -> Result<(), RowStop> {
+    let [room, settings @ ..] = words else {
+        return Err(RowStop::NoRow);
+    };
+    add_machine(alloc, shelf, out, Steps::Within(decimal(room)?), settings)
+}
+
+// Has a machine do these steps, and adds what they come to, and what they changed.
+fn add_machine(
+    alloc: Global,
+    shelf: &Shelf,
+    out: &mut Lines,
+    steps: Steps,
+    settings: &[&str],
+) -> Result<(), RowStop> {
+    let mut machine = Machine::with(alloc, shelf, settings)?;
+    do_steps(out, &mut machine, steps)?;
+    let made = Machine::with(alloc, shelf, settings)?;
+    add_changes(alloc, out, &machine, &made)
+}
+
+fn do_steps(out: &mut Lines, machine: &mut Machine, steps: Steps) -> Result<(), RowStop> {
+    match steps {
+        Steps::Once => {
+            add_look(out, machine)?;
+            add_step(out, machine)
+        }
+        Steps::Often(count) => add_steps(out, machine, count),
+        Steps::Within(room) => add_step_within(out, machine, room),
+    }
+}
+
+// Adds what `look` tells of the next step.
+fn add_look(out: &mut Lines, machine: &Machine) -> Result<(), RowStop> {
     if machine.core.pc % 4 != 0 {
         return Err(RowStop::NoRow);
     }
@@ -87,78 +190,38 @@ fn looked(alloc: Global, machine: &Machine) -> Result<String, RowStop> {
         Ok(looked) => {
             let pages = looked.foot.pages();
             let (cost, fault) = (looked.cost, looked.fault);
-            Ok(format!(in alloc; "look {pages:?} {cost} {fault:?}")?)
+            out.add(format_args!("look {pages:?} {cost} {fault:?}"))
         }
-        Err(page) => Ok(format!(in alloc; "look misses {page}")?),
+        Err(page) => out.add(format_args!("look misses {page}")),
     }
 }
 
-// Does the next step of a machine.
-fn stepped(machine: &mut Machine) -> Result<Result<Event, StepStop>, RowStop> {
-    if machine.core.pc % 4 != 0 {
-        return Err(RowStop::NoRow);
+// Does and adds a step.
+fn add_step(out: &mut Lines, machine: &mut Machine) -> Result<(), RowStop> {
+    let answer = machine.step()?;
+    out.add(format_args!("step {answer:?}"))
+}
+
+fn add_steps(out: &mut Lines, machine: &mut Machine, count: u32) -> Result<(), RowStop> {
+    for _ in 0..count {
+        add_next(out, machine)?;
     }
-    Ok(step(
-        &mut machine.core,
-        &mut machine.pages,
-        &mut machine.tape,
-        &mut machine.log,
-    ))
+    Ok(())
 }
 
-/// Prints what `look` tells of the next step of a machine, what the step comes to, and what it changed.
-pub(crate) fn step_once<R: Print + AllocGlobal>(
-    rt: &R,
-    shelf: &Shelf,
-    settings: &[&str],
-) -> Result<(), RowStop> {
-    let alloc = rt.alloc();
-    let mut machine = Machine::new(alloc, shelf, settings)?;
-    say(rt, looked(alloc, &machine)?.as_str())?;
-    let answer = stepped(&mut machine)?;
-    say(rt, format!(in alloc; "step {answer:?}")?.as_str())?;
-    say_changes(rt, &machine, &Machine::new(alloc, shelf, settings)?)
-}
-
-/// Does so many steps of a machine, and prints what each came to. A page that is missed is opened, of zeros.
-pub(crate) fn step_often<R: Print + AllocGlobal>(
-    rt: &R,
-    shelf: &Shelf,
-    count: &str,
-    settings: &[&str],
-) -> Result<(), RowStop> {
-    let alloc = rt.alloc();
-    let mut machine = Machine::new(alloc, shelf, settings)?;
-    for _ in 0..decimal(count)? {
-        step_next(rt, &mut machine)?;
-    }
-    say_changes(rt, &machine, &Machine::new(alloc, shelf, settings)?)
-}
-
-// Does and prints a step, and opens the page that it misses.
-fn step_next<R: Print + AllocGlobal>(rt: &R, machine: &mut Machine) -> Result<(), RowStop> {
-    let alloc = rt.alloc();
-    let answer = stepped(machine)?;
+// Does and adds a step, and opens the page that it misses.
+fn add_next(out: &mut Lines, machine: &mut Machine) -> Result<(), RowStop> {
+    let answer = machine.step()?;
     let x10 = machine.core.regs.get(10);
-    say(
-        rt,
-        format!(in alloc; "step {answer:?} x10 {x10:08x}")?.as_str(),
-    )?;
+    out.add(format_args!("step {answer:?} x10 {x10:08x}"))?;
     match answer {
         Err(StepStop::Miss(page)) => machine.open(page, &[]),
         _ => Ok(()),
     }
 }
 
-/// Prints what the next step of a machine comes to within this room, and what it changed.
-pub(crate) fn step_in<R: Print + AllocGlobal>(
-    rt: &R,
-    shelf: &Shelf,
-    room: &str,
-    settings: &[&str],
-) -> Result<(), RowStop> {
-    let alloc = rt.alloc();
-    let mut machine = Machine::new(alloc, shelf, settings)?;
+// Does and adds a step within this room.
+fn add_step_within(out: &mut Lines, machine: &mut Machine, room: u32) -> Result<(), RowStop> {
     if machine.core.pc % 4 != 0 {
         return Err(RowStop::NoRow);
     }
@@ -167,22 +230,24 @@ pub(crate) fn step_in<R: Print + AllocGlobal>(
         &mut machine.pages,
         &mut machine.tape,
         &mut machine.log,
-        decimal(room)? as u64,
+        room as u64,
     );
-    say(rt, format!(in alloc; "step {answer:?}")?.as_str())?;
-    say_changes(rt, &machine, &Machine::new(alloc, shelf, settings)?)
+    out.add(format_args!("step {answer:?}"))
 }
 
-// Prints where a machine differs from another.
-fn say_changes<R: Print + AllocGlobal>(
-    rt: &R,
+// Adds where a machine differs from another.
+fn add_changes(
+    alloc: Global,
+    out: &mut Lines,
     machine: &Machine,
     made: &Machine,
 ) -> Result<(), RowStop> {
-    say(rt, place_text(rt.alloc(), machine, made)?.as_str())?;
-    say_log(rt, &machine.log)?;
-    for number in 0u32..262_144 {
-        say_page(rt, number, machine, made)?;
+    out.add(place_text(alloc, machine, made)?.as_str())?;
+    add_log(out, &machine.log)?;
+    for number in 0u32..PAGES {
+        if let (Some(page), Some(other)) = (machine.pages.page(number), made.pages.page(number)) {
+            add_page(out, number, page, other)?;
+        }
     }
     Ok(())
 }
@@ -200,39 +265,30 @@ fn place_text(alloc: Global, machine: &Machine, made: &Machine) -> Result<String
     Ok(text)
 }
 
-// Prints a log.
-fn say_log<R: Print + AllocGlobal>(rt: &R, log: &RunLog) -> Result<(), RowStop> {
-    let alloc = rt.alloc();
+fn add_log(out: &mut Lines, log: &RunLog) -> Result<(), RowStop> {
     if log.journal.len() > 0 {
-        say(rt, "journal")?;
-        say(rt, hex(alloc, log.journal.as_slice())?.as_str())?;
+        let digits = Hex(log.journal.as_slice());
+        out.add(format_args!("journal\n{digits}"))?;
     }
     for call in log.calls.as_slice() {
-        say(rt, "assumes")?;
-        say(rt, hex(alloc, call.image.bytes().as_slice())?.as_str())?;
-        say(rt, hex(alloc, call.journal.bytes().as_slice())?.as_str())?;
+        add_call(out, call)?;
     }
     Ok(())
 }
 
-// Prints a page that was changed.
-fn say_page<R: Print + AllocGlobal>(
-    rt: &R,
-    number: u32,
-    machine: &Machine,
-    made: &Machine,
-) -> Result<(), RowStop> {
-    let alloc = rt.alloc();
-    if let (Some(page), Some(other)) = (machine.pages.page(number), made.pages.page(number)) {
-        for at in 0..256usize {
-            let word = &page.bytes()[4 * at..4 * at + 4];
-            if word != &other.bytes()[4 * at..4 * at + 4] {
-                let text = hex(alloc, word)?;
-                say(
-                    rt,
-                    format!(in alloc; "page {number} word {at} {text}")?.as_str(),
-                )?;
-            }
+fn add_call(out: &mut Lines, call: &AssumeCall) -> Result<(), RowStop> {
+    let image = Hex(call.image.bytes().as_slice());
+    let journal = Hex(call.journal.bytes().as_slice());
+    out.add(format_args!("assumes\n{image}\n{journal}"))
+}
+
+// Adds the words of a page that were changed.
+fn add_page(out: &mut Lines, number: u32, page: &Page, other: &Page) -> Result<(), RowStop> {
+    for at in 0..256usize {
+        let word = &page.bytes()[4 * at..4 * at + 4];
+        if word != &other.bytes()[4 * at..4 * at + 4] {
+            let digits = Hex(word);
+            out.add(format_args!("page {number} word {at} {digits}"))?;
         }
     }
     Ok(())

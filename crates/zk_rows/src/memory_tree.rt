@@ -1,52 +1,65 @@
 //! Trees over memories.
+ghost use Rattle.page_core.specs.declared.sizes.TheConstants.{PAGES};
 ghost use Rattle.std.specs.Prelude.{◌<◌, IsTrue};
+ghost use Rattle.part_tree.specs.Canonical.{IsCanonical};
+ghost use Rattle.part_tree.specs.Views.{part};
 ghost use Rattle.page_tree.specs.Grown.{AscendFrom};
 
+use crate::lines::{Hex, Lines};
 use crate::pages::{page_number, page_of, set_pages, stored_text};
-use crate::running::say;
 use crate::shelf::Shelf;
 use crate::stop::RowStop;
-use crate::words::{decimal, hex};
+use crate::words::{decimal, split_at_mark};
 use digest_core::{Digest, Digester};
-use page_core::{Page, PageMap};
+use page_core::{PAGES, Page, PageMap};
 use page_tree::PageTree;
-use part_tree::PageList;
+use part_tree::{MOST_PAGES, PageList, PartTree};
 use std::alloc::{AllocError, Global};
 
-/// Makes the tree of the memory that the settings among the words make, and prints its answer to each other word.
-pub(crate) fn ask_tree<D: Digester, R: Print + AllocGlobal>(
-    rt: &R,
+/// Makes the tree of the memory that the settings among the words make, and adds its answer to each other word.
+pub(crate) fn ask_tree<D: Digester>(
+    alloc: Global,
     shelf: &Shelf,
+    out: &mut Lines,
     words: &[&str],
 ) -> Result<(), RowStop> {
-    let mut pages = PageMap::new(rt.alloc());
-    let mut questions = Vec::new(rt.alloc());
+    let pages = memory(alloc, shelf, words)?;
+    let tree = PageTree::<D>::from_map(alloc, &pages)?;
     for word in words {
-        if !set_word(shelf, &mut pages, word)? {
-            questions.push(*word)?;
+        if !is_setting(word) {
+            add_answer::<D>(alloc, shelf, out, &tree, word)?;
         }
-    }
-    let tree = PageTree::<D>::from_map(rt.alloc(), &pages)?;
-    for question in questions.iter() {
-        let answer = answer_of::<D>(rt.alloc(), shelf, &tree, question)?;
-        say(rt, format!(in rt.alloc(); "{question} {answer}")?.as_str())?;
     }
     Ok(())
 }
 
-// Does what a setting says, and answers false to other words.
-fn set_word(shelf: &Shelf, pages: &mut PageMap, word: &str) -> Result<bool, RowStop> {
-    let (Some((kind, text)), false) = (word.split_once(':'), word.starts_with("change")) else {
-        return Ok(false);
-    };
-    let Some((place, value)) = text.split_once('=') else {
-        return Ok(false);
-    };
-    set_pages(shelf, pages, kind, place, value)?;
-    Ok(true)
+// The memory that the settings among the words make.
+fn memory(alloc: Global, shelf: &Shelf, words: &[&str]) -> Result<PageMap, RowStop> {
+    let mut pages = PageMap::new(alloc);
+    for word in words {
+        if is_setting(word) {
+            set_pages(shelf, &mut pages, word)?;
+        }
+    }
+    Ok(pages)
+}
+
+fn is_setting(word: &str) -> bool {
+    word.contains('=') && !word.starts_with("change")
 }
 
 // `root`, `digests`, `node:HEIGHT,INDEX`, `page:NUMBER`, `open:NUMBER,NUMBER...`, `change:NUMBER=NAME`.
+fn add_answer<D: Digester>(
+    alloc: Global,
+    shelf: &Shelf,
+    out: &mut Lines,
+    tree: &PageTree<D>,
+    question: &str,
+) -> Result<(), RowStop> {
+    let answer = answer_of::<D>(alloc, shelf, tree, question)?;
+    out.add(format_args!("{question} {answer}"))
+}
+
 fn answer_of<D: Digester>(
     alloc: Global,
     shelf: &Shelf,
@@ -58,13 +71,9 @@ fn answer_of<D: Digester>(
     };
     match kind {
         "node" => node_text::<D>(alloc, tree, text),
-        "page" => Ok(stored_text(alloc, tree.page(page_number(text)?).is_some())?),
+        "page" => page_text::<D>(alloc, tree, text),
         "open" => opened_text::<D>(alloc, tree, text),
-        "change" => {
-            let (number, name) = text.split_once('=').ok_or(RowStop::NoRow)?;
-            let page = page_of(shelf.bytes(name).ok_or(RowStop::NoRow)?)?;
-            changed_text::<D>(alloc, tree, page_number(number)?, &page)
-        }
+        "change" => changed_text::<D>(alloc, shelf, tree, text),
         _ => Err(RowStop::NoRow),
     }
 }
@@ -86,7 +95,8 @@ fn whole_answer<D: Digester>(
 }
 
 fn digest_text(alloc: Global, digest: &Digest) -> Result<String, AllocError> {
-    hex(alloc, digest.bytes().as_slice())
+    let digits = Hex(digest.bytes().as_slice());
+    format!(in alloc; "{digits}")
 }
 
 fn node_text<D: Digester>(
@@ -94,12 +104,20 @@ fn node_text<D: Digester>(
     tree: &PageTree<D>,
     text: &str,
 ) -> Result<String, RowStop> {
-    let (height, index) = text.split_once(',').ok_or(RowStop::NoRow)?;
+    let (height, index) = split_at_mark(text, ',')?;
     let (height, index) = (decimal(height)?, decimal(index)?);
     if height > 18 || index >= 1u32 << (18 - height) {
         return Err(RowStop::NoRow);
     }
     Ok(digest_text(alloc, &tree.node_at(height as u8, index))?)
+}
+
+fn page_text<D: Digester>(
+    alloc: Global,
+    tree: &PageTree<D>,
+    text: &str,
+) -> Result<String, RowStop> {
+    Ok(stored_text(alloc, tree.page(page_number(text)?).is_some())?)
 }
 
 // Opens pages, and tells the pages that are open then, and whether the part tree is canonical and has the tree's root.
@@ -108,20 +126,31 @@ fn opened_text<D: Digester>(
     tree: &PageTree<D>,
     text: &str,
 ) -> Result<String, RowStop> {
+    let numbers = numbers_in(alloc, text)?;
+    let numbers = numbers.as_slice();
+    if numbers.is_empty() || numbers.len() > MOST_PAGES as usize || !do_ascend(0, numbers) {
+        return Err(RowStop::NoRow);
+    }
+    part_text::<D>(alloc, tree.root(), &tree.open(numbers)?)
+}
+
+fn part_text<D: Digester>(alloc: Global, root: Digest, tree: &PartTree) -> Result<String, RowStop>
+    requires { IsCanonical (part tree.now) }
+{
+    let has_root = tree.root::<D>() == root;
+    let is_canonical = tree.is_canonical();
+    let opened = tree.opened(alloc)?;
+    let opened = opened.as_slice();
+    Ok(format!(in alloc; "opens {opened:?}, same root: {has_root}, canonical: {is_canonical}")?)
+}
+
+// The numbers between commas.
+fn numbers_in(alloc: Global, text: &str) -> Result<PageList, RowStop> {
     let mut numbers = PageList::new(alloc);
     for number in text.split(',') {
         numbers.push(decimal(number)?)?;
     }
-    let numbers = numbers.as_slice();
-    if numbers.is_empty() || numbers.len() > 4096 || !do_ascend(0, numbers) {
-        return Err(RowStop::NoRow);
-    }
-    let part = tree.open(numbers)?;
-    let has_root = part.root::<D>() == tree.root();
-    let is_canonical = part.is_canonical();
-    let opened = part.opened(alloc)?;
-    let opened = opened.as_slice();
-    Ok(format!(in alloc; "opens {opened:?}, same root: {has_root}, canonical: {is_canonical}")?)
+    Ok(numbers)
 }
 
 // Whether page numbers ascend without repeats, from one on.
@@ -130,24 +159,35 @@ fn do_ascend(least: u32, numbers: &[u32]) -> bool
 {
     match numbers.split_first() {
         None => true,
-        Some((first, rest)) => {
-            least <= *first && *first < 262_144 && do_ascend(*first + 1, rest)
-        }
+        Some((first, rest)) => { least <= *first && *first < PAGES && do_ascend(*first + 1, rest) }
     }
 }
 
-// Opens a page, writes another in its place, and tells the root of the part tree then.
+// Opens a page, writes a file in its place, and tells the root of the part tree then.
 fn changed_text<D: Digester>(
     alloc: Global,
+    shelf: &Shelf,
+    tree: &PageTree<D>,
+    text: &str,
+) -> Result<String, RowStop> {
+    let (number, name) = split_at_mark(text, '=')?;
+    let page = page_of(shelf.bytes(name)?)?;
+    Ok(digest_text(
+        alloc,
+        &changed_root::<D>(tree, page_number(number)?, &page)?,
+    )?)
+}
+
+fn changed_root<D: Digester>(
     tree: &PageTree<D>,
     number: u32,
     page: &Page,
-) -> Result<String, RowStop>
-    requires { number < 262144 }
+) -> Result<Digest, AllocError>
+    requires { number < PAGES }
 {
     let mut part = tree.open(&[number])?;
     if part.page(number).is_some() {
         part.write(number, page);
     }
-    Ok(digest_text(alloc, &part.root::<D>())?)
+    Ok(part.root::<D>())
 }

@@ -5,8 +5,8 @@ use crate::elf::elf_of;
 use crate::shelf::Shelf;
 use crate::stop::RowStop;
 use crate::tree::put_tree;
-use crate::words::{decimal, hexadecimal};
-use byte_cursor::{ByteList, Out};
+use crate::words::{decimal, hexadecimal, split_at_mark};
+use byte_cursor::{ByteList, Out, WordList};
 use digest_core::{ShaDigester, WeakDigester, hash};
 use guest_gen::{SIZE_MAX, generate};
 use outside::{DirDesk, read_all};
@@ -20,61 +20,96 @@ pub(crate) fn bytes_of<R: Files + AllocGlobal>(
     pieces: &[&str],
 ) -> Result<ByteList, RowStop> {
     let mut out = Out::new(rt.alloc());
-    for piece in pieces {
-        match piece.split_once(':') {
-            Some((kind, text)) => put_made(rt, shelf, &mut out, kind, text)?,
-            None => put_plain(shelf, &mut out, piece)?,
-        }
-    }
+    put_pieces(rt, shelf, &mut out, pieces)?;
     Ok(out.finish())
 }
 
-// A piece that is made of a file.
-fn put_made<R: Files + AllocGlobal>(
+fn put_pieces<R: Files + AllocGlobal>(
     rt: &R,
+    shelf: &Shelf,
+    out: &mut Out,
+    pieces: &[&str],
+) -> Result<(), RowStop> {
+    for piece in pieces {
+        put_piece(rt, shelf, out, piece)?;
+    }
+    Ok(())
+}
+
+fn put_piece<R: Files + AllocGlobal>(
+    rt: &R,
+    shelf: &Shelf,
+    out: &mut Out,
+    piece: &str,
+) -> Result<(), RowStop> {
+    let Some((kind, text)) = piece.split_once(':') else {
+        return put_plain(shelf, out, piece);
+    };
+    if kind == "data" {
+        return put_data(rt, out, text);
+    }
+    put_made(rt.alloc(), shelf, out, kind, text)
+}
+
+// A file outside.
+fn put_data<R: Files + AllocGlobal>(rt: &R, out: &mut Out, name: &str) -> Result<(), RowStop> {
+    match read_all(rt.alloc(), &mut DirDesk::new(rt), name, 1_073_741_824) {
+        Ok(file) => Ok(out.put_all(file.as_slice())?),
+        Err(_) => Err(RowStop::NoRow),
+    }
+}
+
+// A piece that is made of a file, or of numbers.
+fn put_made(
+    alloc: Global,
     shelf: &Shelf,
     out: &mut Out,
     kind: &str,
     text: &str,
 ) -> Result<(), RowStop> {
     match kind {
-        "data" => {
-            let desk = &mut DirDesk::new(rt);
-            match read_all(rt.alloc(), desk, text, 1_073_741_824) {
-                Ok(file) => out.put_all(file.as_slice())?,
-                Err(_) => return Err(RowStop::NoRow),
-            }
-        }
-        "sha" => out.put_all(hash::<ShaDigester>(named(shelf, text)?).bytes().as_slice())?,
-        "elf" => out.put_all(elf_of(rt.alloc(), named(shelf, text)?)?.as_slice())?,
-        "guest" | "guest-words" => put_generated(rt.alloc(), out, kind, text)?,
-        "tree" => put_tree::<ShaDigester>(rt.alloc(), shelf, out, text)?,
-        "weaktree" => put_tree::<WeakDigester>(rt.alloc(), shelf, out, text)?,
-        _ => return Err(RowStop::NoRow),
+        "sha" => put_sha(out, shelf.bytes(text)?),
+        "elf" => put_elf(alloc, out, shelf.bytes(text)?),
+        "guest" => put_guest(alloc, out, text),
+        "guest-words" => put_guest_words(alloc, out, text),
+        "tree" => put_tree::<ShaDigester>(alloc, shelf, out, text),
+        "weaktree" => put_tree::<WeakDigester>(alloc, shelf, out, text),
+        _ => Err(RowStop::NoRow),
     }
-    Ok(())
 }
 
-// `guest:NUMBER,SIZE`, the ELF file of the generator's guest, or `guest-words:NUMBER,SIZE`, its input.
-fn put_generated(alloc: Global, out: &mut Out, kind: &str, text: &str) -> Result<(), RowStop> {
-    let (number, size) = text.split_once(',').ok_or(RowStop::NoRow)?;
-    let (number, size) = (decimal(number)?, decimal(size)?);
-    if size < 1 || size > SIZE_MAX {
-        return Err(RowStop::NoRow);
-    }
-    let (file, words) = generate(alloc, u64::from(number), size)?;
-    if kind == "guest" {
-        return Ok(out.put_all(file.as_slice())?);
-    }
+fn put_sha(out: &mut Out, bytes: &[u8]) -> Result<(), RowStop> {
+    let digest = hash::<ShaDigester>(bytes);
+    Ok(out.put_all(digest.bytes().as_slice())?)
+}
+
+fn put_elf(alloc: Global, out: &mut Out, code: &[u8]) -> Result<(), RowStop> {
+    let file = elf_of(alloc, code)?;
+    Ok(out.put_all(file.as_slice())?)
+}
+
+// The ELF file of the generator's guest that `NUMBER,SIZE` names.
+fn put_guest(alloc: Global, out: &mut Out, text: &str) -> Result<(), RowStop> {
+    let (file, _) = generated(alloc, text)?;
+    Ok(out.put_all(file.as_slice())?)
+}
+
+// Its input.
+fn put_guest_words(alloc: Global, out: &mut Out, text: &str) -> Result<(), RowStop> {
+    let (_, words) = generated(alloc, text)?;
     for word in words.as_slice() {
         out.put_u32(*word)?;
     }
     Ok(())
 }
 
-// The bytes of a file.
-fn named<'a>(shelf: &'a Shelf, name: &str) -> Result<&'a [u8], RowStop> {
-    shelf.bytes(name).ok_or(RowStop::NoRow)
+fn generated(alloc: Global, text: &str) -> Result<(ByteList, WordList), RowStop> {
+    let (number, size) = split_at_mark(text, ',')?;
+    let (number, size) = (decimal(number)?, decimal(size)?);
+    if size < 1 || size > SIZE_MAX {
+        return Err(RowStop::NoRow);
+    }
+    Ok(generate(alloc, u64::from(number), size)?)
 }
 
 // A file, a part of one, zero bytes, bytes as they stand, a half word or a word.
@@ -83,13 +118,10 @@ fn put_plain(shelf: &Shelf, out: &mut Out, piece: &str) -> Result<(), RowStop> {
         return Ok(out.put_all(part(shelf, name)?)?);
     }
     if let Some(count) = piece.strip_prefix('z') {
-        for _ in 0..decimal(count)? {
-            out.put_u8(0)?;
-        }
-        return Ok(());
+        return put_zeros(out, decimal(count)?);
     }
     if let Some(half) = piece.strip_prefix('h') {
-        return Ok(out.put_all(&hexadecimal(half)?.to_le_bytes()[..2])?);
+        return put_half(out, hexadecimal(half)?);
     }
     if let Some(digits) = piece.strip_prefix('x') {
         return put_hex(out, digits);
@@ -97,14 +129,36 @@ fn put_plain(shelf: &Shelf, out: &mut Out, piece: &str) -> Result<(), RowStop> {
     Ok(out.put_u32(hexadecimal(piece)?)?)
 }
 
+fn put_zeros(out: &mut Out, count: u32) -> Result<(), RowStop> {
+    for _ in 0..count {
+        out.put_u8(0)?;
+    }
+    Ok(())
+}
+
+// The low two bytes of a number.
+fn put_half(out: &mut Out, number: u32) -> Result<(), RowStop> {
+    Ok(out.put_all(&number.to_le_bytes()[..2])?)
+}
+
 // `NAME`, or `NAME@FROM..TO`.
 fn part<'a>(shelf: &'a Shelf, text: &str) -> Result<&'a [u8], RowStop> {
-    let Some((name, range)) = text.split_once('@') else {
-        return named(shelf, text);
+    match text.split_once('@') {
+        Some((name, range)) => within(shelf.bytes(name)?, range),
+        None => shelf.bytes(text),
+    }
+}
+
+// The bytes from one place up to another: `FROM..TO`.
+fn within<'a>(bytes: &'a [u8], range: &str) -> Result<&'a [u8], RowStop> {
+    let Some((from, to)) = range.split_once("..") else {
+        return Err(RowStop::NoRow);
     };
-    let (from, to) = range.split_once("..").ok_or(RowStop::NoRow)?;
     let range = decimal(from)? as usize..decimal(to)? as usize;
-    named(shelf, name)?.get(range).ok_or(RowStop::NoRow)
+    match bytes.get(range) {
+        Some(bytes) => Ok(bytes),
+        None => Err(RowStop::NoRow),
+    }
 }
 
 // A hexadecimal digit.
@@ -120,12 +174,15 @@ fn digit(byte: u8) -> Result<u8, RowStop>
 
 fn put_hex(out: &mut Out, digits: &str) -> Result<(), RowStop> {
     for pair in digits.as_bytes().chunks(2) {
-        match pair {
-            [high, low] => {
-                out.put_u8(digit(*high)? * 16 + digit(*low)?)?;
-            }
-            _ => return Err(RowStop::NoRow),
-        }
+        put_pair(out, pair)?;
     }
     Ok(())
+}
+
+// The byte of two digits.
+fn put_pair(out: &mut Out, pair: &[u8]) -> Result<(), RowStop> {
+    let [high, low] = pair else {
+        return Err(RowStop::NoRow);
+    };
+    Ok(out.put_u8(digit(*high)? * 16 + digit(*low)?)?)
 }

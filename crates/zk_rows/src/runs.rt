@@ -1,8 +1,8 @@
 //! Uncut runs of guests, and the cuts of runs.
 
 use crate::images::image_in;
+use crate::lines::Lines;
 use crate::machine::words_in;
-use crate::running::say;
 use crate::shelf::Shelf;
 use crate::stop::RowStop;
 use crate::words::{decimal, hexadecimal};
@@ -11,45 +11,56 @@ use executor::{Cut, Executor, Limits, Next};
 use flat_machine::Flat;
 use std::alloc::{AllocError, Global};
 
-/// Makes these calls of the uncut run of a guest on the words of a file, and prints what each answers, and where the run
-/// then is.
-pub(crate) fn flat_calls<R: Print + AllocGlobal>(
-    rt: &R,
+/// Makes calls of the uncut run of a guest on the words of a file, and adds what each answers, and where the run then is.
+pub(crate) fn flat_calls(
+    alloc: Global,
     shelf: &Shelf,
-    elf: &str,
-    input: &str,
-    calls: &[&str],
+    out: &mut Lines,
+    words: &[&str],
 ) -> Result<(), RowStop> {
-    let alloc = rt.alloc();
-    let words = words_in(alloc, shelf.bytes(input).ok_or(RowStop::NoRow)?)?;
-    let mut flat = Flat::new(alloc, image_in(alloc, shelf, elf)?, words);
+    let [elf, input, calls @ ..] = words else {
+        return Err(RowStop::NoRow);
+    };
+    let mut flat = flat_of(alloc, shelf, elf, input)?;
     for call in calls {
-        let answer = flat_call(alloc, &mut flat, call)?;
-        let place = place_text(alloc, &flat)?;
-        say(rt, format!(in alloc; "{call} {answer}; {place}")?.as_str())?;
+        add_flat(alloc, out, &mut flat, call)?;
     }
     Ok(())
 }
 
-// How far a run is.
-fn place_text(alloc: Global, flat: &Flat) -> Result<String, AllocError> {
+fn flat_of(alloc: Global, shelf: &Shelf, elf: &str, input: &str) -> Result<Flat, RowStop> {
+    let words = words_in(alloc, shelf.bytes(input)?)?;
+    Ok(Flat::new(alloc, image_in(alloc, shelf, elf)?, words))
+}
+
+// Makes a call, and adds what it answers, and how far the run is.
+fn add_flat(alloc: Global, out: &mut Lines, flat: &mut Flat, call: &str) -> Result<(), RowStop> {
+    let answer = flat_call(alloc, flat, call)?;
     let (pc, steps, cycles) = (flat.pc(), flat.steps(), flat.cycles());
     let read = flat.read();
-    format!(in alloc; "at {pc:08x} steps {steps} cycles {cycles} read {read:?}")
+    out.add(format_args!(
+        "{call} {answer}; at {pc:08x} steps {steps} cycles {cycles} read {read:?}"
+    ))
 }
 
 // Makes a call, and tells what it answers.
 fn flat_call(alloc: Global, flat: &mut Flat, call: &str) -> Result<String, RowStop> {
-    let (kind, number) = match call.split_once(':') {
-        Some(pair) => pair,
-        None => (call, "0"),
+    let Some((kind, number)) = call.split_once(':') else {
+        return plain_call(alloc, flat, call);
     };
     match kind {
         "run" => run_text(alloc, flat, decimal(number)? as u64),
         "step" => step_text(alloc, flat, decimal(number)? as u64),
         "go" => go_text(alloc, flat, decimal(number)? as u64),
-        "look" => look_text(alloc, flat),
         "word" => word_text(alloc, flat, hexadecimal(number)?),
+        _ => Err(RowStop::NoRow),
+    }
+}
+
+// Makes a call without a number.
+fn plain_call(alloc: Global, flat: &mut Flat, call: &str) -> Result<String, RowStop> {
+    match call {
+        "look" => Ok(look_text(alloc, flat)?),
         "lift" => {
             flat.lift()?;
             Ok(String::from_str(alloc, "done")?)
@@ -88,10 +99,10 @@ fn go_text(alloc: Global, flat: &mut Flat, steps: u64) -> Result<String, RowStop
 }
 
 // What the next step touches and costs.
-fn look_text(alloc: Global, flat: &Flat) -> Result<String, RowStop> {
+fn look_text(alloc: Global, flat: &Flat) -> Result<String, AllocError> {
     let looked = flat.look();
     let (pages, cost) = (looked.foot.pages(), looked.cost);
-    Ok(format!(in alloc; "pages {pages:?} cost {cost}")?)
+    format!(in alloc; "pages {pages:?} cost {cost}")
 }
 
 // The word of memory at an address, the registers being in the register page.
@@ -109,84 +120,95 @@ fn executor_of(
     shelf: &Shelf,
     run: &[&str],
 ) -> Result<Executor<WeakDigester>, RowStop> {
-    let [elf, input, cycles, pages, limit] = run else {
+    let [elf, input, limits @ ..] = run else {
         return Err(RowStop::NoRow);
     };
-    let limits = Limits::new(decimal(cycles)?, decimal(pages)?, decimal(limit)? as u64);
-    let words = words_in(alloc, shelf.bytes(input).ok_or(RowStop::NoRow)?)?;
-    let image = image_in(alloc, shelf, elf)?;
-    Ok(Executor::new(alloc, image, words, limits.ok_or(RowStop::NoRow)?)?)
+    let limits = limits_of(limits)?;
+    let words = words_in(alloc, shelf.bytes(input)?)?;
+    Ok(Executor::new(alloc, image_in(alloc, shelf, elf)?, words, limits)?)
 }
 
-/// Prints the cuts of a run, and how it ends, twice.
-pub(crate) fn say_cuts<R: Print + AllocGlobal>(
-    rt: &R,
+fn limits_of(words: &[&str]) -> Result<Limits, RowStop> {
+    let [cycles, pages, limit] = words else {
+        return Err(RowStop::NoRow);
+    };
+    match Limits::new(decimal(cycles)?, decimal(pages)?, decimal(limit)? as u64) {
+        Some(limits) => Ok(limits),
+        None => Err(RowStop::NoRow),
+    }
+}
+
+/// Adds the cuts of a run, and how it ends, twice.
+pub(crate) fn add_cuts(
+    alloc: Global,
     shelf: &Shelf,
+    out: &mut Lines,
     run: &[&str],
 ) -> Result<(), RowStop> {
-    let mut executor = executor_of(rt.alloc(), shelf, run)?;
+    let mut executor = executor_of(alloc, shelf, run)?;
     for _ in 0..65_536u32 {
-        if !say_next(rt, &mut executor)? {
+        if !add_next(alloc, out, &mut executor)? {
             break;
         }
     }
-    let _is_cut = say_next(rt, &mut executor)?;
+    let _is_cut = add_next(alloc, out, &mut executor)?;
     Ok(())
 }
 
-/// Prints how many cuts a run has, and how it ends.
-pub(crate) fn count_cuts<R: Print + AllocGlobal>(
-    rt: &R,
+/// Adds how many cuts a run has, and how it ends.
+pub(crate) fn count_cuts(
+    alloc: Global,
     shelf: &Shelf,
+    out: &mut Lines,
     run: &[&str],
 ) -> Result<(), RowStop> {
-    let alloc = rt.alloc();
     let mut executor = executor_of(alloc, shelf, run)?;
-    let mut count = 0u32;
-    for _ in 0..65_536u32 {
-        match executor.next()? {
-            Next::Cut(_) => count = count.saturating_add(1),
-            _ => break,
-        }
-    }
-    say(rt, format!(in alloc; "{count} cuts")?.as_str())?;
-    let _is_cut = say_next(rt, &mut executor)?;
+    let count = cuts_left(&mut executor)?;
+    out.add(format_args!("{count} cuts"))?;
+    let _is_cut = add_next(alloc, out, &mut executor)?;
     Ok(())
 }
 
-// Prints what comes next, and tells whether it is a cut.
-fn say_next<R: Print + AllocGlobal>(
-    rt: &R,
+fn cuts_left(executor: &mut Executor<WeakDigester>) -> Result<u32, RowStop> {
+    for count in 0..65_536u32 {
+        match executor.next()? {
+            Next::Cut(_) => {}
+            _ => return Ok(count),
+        }
+    }
+    Ok(65_536)
+}
+
+// Adds what comes next, and tells whether it is a cut.
+fn add_next(
+    alloc: Global,
+    out: &mut Lines,
     executor: &mut Executor<WeakDigester>,
 ) -> Result<bool, RowStop> {
     match executor.next()? {
         Next::Cut(cut) => {
-            say_cut(rt, &cut)?;
+            add_cut(alloc, out, &cut)?;
             Ok(true)
         }
         Next::Ended(outcome) => {
-            say(rt, format!(in rt.alloc(); "{outcome:?}")?.as_str())?;
+            out.add(format_args!("{outcome:?}"))?;
             Ok(false)
         }
         Next::TooManySeals => {
-            say(rt, "too many seals")?;
+            out.add("too many seals")?;
             Ok(false)
         }
     }
 }
 
-// Prints a cut: its number, the pc, the steps, the words and the open pages of its seal.
-fn say_cut<R: Print + AllocGlobal>(rt: &R, cut: &Cut<WeakDigester>) -> Result<(), RowStop> {
-    let alloc = rt.alloc();
+// Adds a cut: its number, the pc, the steps, the words and the open pages of its seal.
+fn add_cut(alloc: Global, out: &mut Lines, cut: &Cut<WeakDigester>) -> Result<(), RowStop> {
     let number = cut.number();
     let seal = cut.open()?;
     let opened = seal.tree.opened(alloc)?;
     let (pc, steps, words) = (seal.pc, seal.steps, seal.words.as_slice());
     let pages = opened.as_slice();
-    say(
-        rt,
-        format!(in alloc;
-            "cut {number} from {pc:08x} of {steps} steps, words {words:?}, pages {pages:?}"
-        )?.as_str(),
-    )
+    out.add(format_args!(
+        "cut {number} from {pc:08x} of {steps} steps, words {words:?}, pages {pages:?}"
+    ))
 }

@@ -1,65 +1,56 @@
 use crate::stop::RowStop;
-use byte_cursor::ByteList;
-use std::alloc::Global;
+use byte_cursor::{ByteList, Out};
+use std::alloc::{AllocError, Global};
+use std::collections::BTreeMap;
 
 /// A file that rows name.
 #[derive(Drop)]
 pub(crate) struct Kept {
-    pub name: String,
     /// What it holds; None: it is absent until a command writes it.
     pub held: Option<ByteList>,
     /// How many bytes a write may give it.
     pub room: u32,
 }
 
-/// The files that rows name, in the order in which they came.
+/// The files that rows name.
 #[derive(Drop)]
 pub(crate) struct Shelf {
-    files: Vec<Kept>,
+    files: BTreeMap<String, Kept>,
 }
 
 impl Shelf {
     pub fn new(alloc: Global) -> Shelf {
         Shelf {
-            files: Vec::new(alloc),
+            files: BTreeMap::new(alloc),
         }
     }
 
     /// The file of this name.
     pub fn file(&self, name: &str) -> Option<&Kept> {
-        for kept in self.files.iter() {
-            if kept.name.as_str() == name {
-                return Some(kept);
-            }
-        }
-        None
+        self.files.get(name)
     }
 
     /// The bytes of the file of this name.
-    pub fn bytes(&self, name: &str) -> Option<&[u8]> {
-        Some(self.file(name)?.held.as_ref()?.as_slice())
+    pub fn bytes(&self, name: &str) -> Result<&[u8], RowStop> {
+        let Some(kept) = self.files.get(name) else {
+            return Err(RowStop::NoRow);
+        };
+        match &kept.held {
+            Some(bytes) => Ok(bytes.as_slice()),
+            None => Err(RowStop::NoRow),
+        }
     }
 
     /// Keeps a file in the place of the one of its name.
-    pub fn put(
-        &mut self,
-        alloc: Global,
-        name: &str,
-        held: Option<ByteList>,
-        room: u32,
-    ) -> Result<(), RowStop> {
-        for kept in self.files.iter_mut() {
-            if kept.name.as_str() == name {
-                kept.held = held;
-                kept.room = room;
-                return Ok(());
-            }
-        }
-        self.files.push(Kept {
-            name: String::from_str(alloc, name)?,
-            held,
-            room,
-        })?;
+    pub fn put(&mut self, alloc: Global, name: &str, kept: Kept) -> Result<(), RowStop> {
+        let _earlier = self.files.insert(String::from_str(alloc, name)?, kept)?;
         Ok(())
     }
+}
+
+/// A list of these bytes.
+pub(crate) fn copied(alloc: Global, bytes: &[u8]) -> Result<ByteList, AllocError> {
+    let mut out = Out::new(alloc);
+    out.put_all(bytes)?;
+    Ok(out.finish())
 }

@@ -5,8 +5,8 @@ use std::alloc::{AllocError, AllocFailed};
 pub(crate) enum RowStop {
     /// Want of memory.
     Memory,
-    /// The output can't be written.
-    Output,
+    /// The clock can't be read.
+    Clock,
     /// It isn't in the language, or names no file.
     NoRow,
 }

@@ -16,30 +16,47 @@ pub(crate) fn put_tree<D: Digester>(
     text: &str,
 ) -> Result<(), RowStop> {
     let zeros = zero_nodes::<D>(alloc)?;
-    let zeros = zeros.as_slice();
+    put_pages(shelf, out, zeros.as_slice(), text)
+}
+
+fn put_pages(shelf: &Shelf, out: &mut Out, zeros: &[Digest], text: &str) -> Result<(), RowStop> {
     let mut last = None;
     for page in text.split(',') {
-        let (number, bytes) = match page.split_once('=') {
-            Some((number, name)) => (number, shelf.bytes(name).ok_or(RowStop::NoRow)?),
-            None => (page, [].as_slice()),
-        };
-        let number = decimal(number)?;
-        let top = match last {
-            None => zeros.len(),
-            Some(before) => {
-                let top = fork(before, number);
-                put_right_sides(out, zeros, before, top)?;
-                top
-            }
-        };
-        put_left_sides(out, zeros, number, top)?;
-        put_page(out, bytes)?;
-        last = Some(number);
+        last = Some(put_next(shelf, out, zeros, last, page)?);
     }
+    match last {
+        Some(before) => Ok(put_right_sides(out, zeros, before, zeros.len())?),
+        None => Ok(()),
+    }
+}
+
+// Writes a page and what stands between the one before and it, and returns its number.
+fn put_next(
+    shelf: &Shelf,
+    out: &mut Out,
+    zeros: &[Digest],
+    last: Option<u32>,
+    page: &str,
+) -> Result<u32, RowStop> {
+    let (number, bytes) = page_in(shelf, page)?;
+    let top = match last {
+        Some(before) => fork(before, number),
+        None => zeros.len(),
+    };
     if let Some(before) = last {
-        put_right_sides(out, zeros, before, zeros.len())?;
+        put_right_sides(out, zeros, before, top)?;
     }
-    Ok(())
+    put_left_sides(out, zeros, number, top)?;
+    put_page(out, bytes)?;
+    Ok(number)
+}
+
+// The number of a page, and the bytes with which it begins: `4=CODE`, or `5`.
+fn page_in<'a>(shelf: &'a Shelf, page: &str) -> Result<(u32, &'a [u8]), RowStop> {
+    match page.split_once('=') {
+        Some((number, name)) => Ok((decimal(number)?, shelf.bytes(name)?)),
+        None => Ok((decimal(page)?, [].as_slice())),
+    }
 }
 
 // The digests of the nodes below the root over zero pages, from height 0 up.

@@ -1,17 +1,37 @@
-use Rattle.std.proofs.Common.{◌≡◌, ℕ, List, map, subst}
-use Rattle.std.proofs.lemmas.Result.{IfOk-weaker, IfOk-at_ok}
+use Rattle.std.proofs.Common.{Option, map, inl, inr, sym, subst}
 use Rattle.std.specs.Prelude.{string_bytes}
-use Rattle.check_calls.specs.Answers.{AnswersBytes}
-use Rattle.check_calls.specs.Views.{job}
-use Rattle.check_calls.proofs.Answered.{answers_read}
+use Rattle.outside.specs.Files.{Files}
+use Rattle.cli_text.specs.CheckWords.{NamesCheck, NamesNoCheck}
+use Rattle.command_frame.specs.Ends.{HasCause}
+use Rattle.command_frame.proofs.Causes.{cause_wider, silent_fault}
+use Rattle.check_calls.specs.Top.{IsCheckUsage, CheckJobTable, CheckTable}
 use Rattle.check_calls.proofs.top.answer.Goals as goal
 
-pub returns-in-Ok-clause-answer : goal.returns-in-Ok-clause-answer
-returns-in-Ok-clause-answer g c =
-    let H : List ℕ → List ℕ = g.D.Digester.digest_of in
-    let read : c.as_slice.result.now ≡ c.in-Ok.bytes.items = c.as_slice.ensures in
-    IfOk-weaker c.or_memory-in-Ok.result _ _
-    (λ printed made. answers_read H (job c.in-Some.job) c.in-Ok.bytes.items printed.status (string_bytes printed.text)
-    (subst (λ (bytes : List ℕ). AnswersBytes H (job c.in-Some.job) bytes printed.status (string_bytes printed.text)) read (IfOk-at_ok _ made c.answer_bytes.ensures))
-    (map string_bytes c.args.words.now) (g.K.Desk.contents c.args.desk.now) c.in-Some.ensures.some
-    (rw c.file.ensures at c.in-Ok.ensures.told) (rw c.limit.ensures at c.in-Ok.ensures.within)) c.or_memory-in-Ok.ensures.ok
+pub returns-in-Ok-Some-clause-answer : goal.returns-in-Ok-Some-clause-answer
+returns-in-Ok-Some-clause-answer g c =
+    let H = g.D.Digester.digest_of in
+    let words = map string_bytes c.args.words.now in
+    let told : Option Files = g.K.Desk.contents c.args.desk.now in
+    let job = c.in-Ok-Some.job in
+    let names : NamesCheck words job = rw c.in-Ok-Some.field-0-is at c.in-Ok-Some.ensures.some in
+    cause_wider (CheckJobTable H job told) (CheckTable H words told) (λ status lines kept answers. inr (record { job = job; names = names; answers = answers })) c.ended.result
+    (subst (HasCause (CheckJobTable H job told)) (sym c.ended.ensures) c.answer_job.ensures.answer)
+
+pub returns-in-Ok-Some-clause-fault : goal.returns-in-Ok-Some-clause-fault
+returns-in-Ok-Some-clause-fault g c fault =
+    let names : NamesCheck (map string_bytes c.args.words.now) c.in-Ok-Some.job = rw c.in-Ok-Some.field-0-is at c.in-Ok-Some.ensures.some in
+    let (reads, rose) = c.answer_job.ensures.fault (silent_fault c.answer_job.result c.ended.result c.ended.ensures fault) in
+    (record { job = c.in-Ok-Some.job; names = names; reads = reads }, rose)
+
+pub returns-in-Ok-None-clause-answer : goal.returns-in-Ok-None-clause-answer
+returns-in-Ok-None-clause-answer g c =
+    let H = g.D.Digester.digest_of in
+    let words = map string_bytes c.args.words.now in
+    let told : Option Files = g.K.Desk.contents c.args.desk.now in
+    let none : NamesNoCheck words = rw c.in-Ok-None.field-0-is at c.in-Ok-None.ensures.none in
+    cause_wider IsCheckUsage (CheckTable H words told) (λ status lines kept usage. inl (none, usage)) c.ended-in-Ok-None.result
+    (subst (HasCause IsCheckUsage) (sym c.ended-in-Ok-None.ensures) c.usage.ensures.usage)
+
+pub returns-in-Ok-None-clause-fault : goal.returns-in-Ok-None-clause-fault
+returns-in-Ok-None-clause-fault g c fault =
+    absurd (c.usage.ensures.no_fault (silent_fault c.usage.result c.ended-in-Ok-None.result c.ended-in-Ok-None.ensures fault))

@@ -1,7 +1,7 @@
 use Rattle.std.proofs.Common.{rules, ◌≡◌, ⊎_elim, Some, Err, sym, subst, arith}
 use Rattle.std.proofs.lemmas.Slice.Zip.{AllZip-long}
 use Rattle.lift_join.specs.Joins.{chain_of}
-use Rattle.check_core.specs.Checking.{Stops}
+use Rattle.check_core.specs.Checking.{StopsCheck}
 use Rattle.check_core.proofs.Linked.{same_digests}
 use Rattle.check_core.proofs.Stopping.{seals_stopped, links_stopped, accepted}
 use Rattle.check_core.proofs.judging.check_bundle.Goals as goal
@@ -13,7 +13,7 @@ returns-in_err-claims-clause-stop g c =
     let same = same_digests c.first_id-found.result c.args.id.now c.ne.result c.ne.ensures c.if-ne.false in
     let is : c.from_residual.result ≡ Err stop = search rules in
     rw is
-    (⊎_elim (λ e. subst (Stops H c.args.bundle.now c.args.id.now) (sym e) tt)
+    (⊎_elim (λ e. subst (StopsCheck H c.args.bundle.now c.args.id.now) (sym e) tt)
     (seals_stopped H c.args.bundle.now c.args.id.now c.first_id-found.result c.first_id-found.ensures same stop)
     c.in_err-claims.ensures.stop)
 

@@ -7,7 +7,7 @@ use Rattle.serde_json.specs.View.{view, items_view, members_view}
 use Rattle.serde_json.specs.declared.value.Value.{Object}
 use Rattle.serde_json.proofs.Views.{view-Array, view-Object}
 use Rattle.inspect_json.specs.Text.{entry_text}
-use Rattle.inspect_json.specs.Values.{IsWritten, AreWritten}
+use Rattle.inspect_json.specs.Values.{HasText, HaveTexts}
 use Rattle.inspect_json.proofs.Objects.{entry_data, entry_written}
 use Rattle.inspect_json.proofs.values.entry_value.Goals as goal
 
@@ -44,6 +44,6 @@ returns c =
     let steps = c.in_ok-put_number-5.ensures ∙ ap (put (codes "steps") (number (unsigned report.steps))) seals in
     let members = c.put_number-5.new.members in
     let built : view (Object members) ≡ entry_data report (items_view values) = view-Object members ∙ ap object steps in
-    let all = subst (λ (links : List ℕ). AreWritten values (map decimal links)) c.as_slice.ensures c.in_ok-links.ensures in
-    subst (λ (e : EntryReport). IsWritten (Object members) (entry_text e)) c.entry.view_is
+    let all = subst (λ (links : List ℕ). HaveTexts values (map decimal links)) c.as_slice.ensures c.in_ok-links.ensures in
+    subst (λ (e : EntryReport). HasText (Object members) (entry_text e)) c.entry.view_is
     (entry_written (Object members) report values built c.in_ok-put_digest.ensures.plain c.in_ok-put_digest-2.ensures.plain c.in_ok-put_digest-3.ensures.plain c.in_ok-put_digest-4.ensures.plain all)

@@ -5,7 +5,7 @@ use Rattle.serde_json.specs.View.{view, items_view, members_view}
 use Rattle.serde_json.specs.declared.value.Value.{Object}
 use Rattle.serde_json.proofs.Views.{view-Array, view-Object}
 use Rattle.inspect_json.specs.Text.{entry_text}
-use Rattle.inspect_json.specs.Values.{AreWritten}
+use Rattle.inspect_json.specs.Values.{HaveTexts}
 use Rattle.inspect_json.proofs.Objects.{report_data, report_written}
 use Rattle.inspect_json.proofs.values.report_value.Goals as goal
 
@@ -20,5 +20,5 @@ returns c =
     let members = c.put_number.new.members in
     let built : view (Object members) ≡ report_data (items_view values) = view-Object members ∙ ap object version in
     let reports = c.as_slice.ensures ∙ ap (λ (report : Report). report.entries) c.report.view_is in
-    let written = subst (λ (reports : List EntryReport). AreWritten values (map entry_text reports)) reports c.in_ok-entries.ensures in
+    let written = subst (λ (reports : List EntryReport). HaveTexts values (map entry_text reports)) reports c.in_ok-entries.ensures in
     report_written (Object members) c.args.report.now values built written

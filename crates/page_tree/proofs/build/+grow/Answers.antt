@@ -1,6 +1,6 @@
 use Rattle.std.proofs.Common.{rules, ◌≤◌, arith}
 use Rattle.part_tree.proofs.Below.{sides_fit}
-use Rattle.page_tree.specs.Views.{grown}
+use Rattle.page_tree.specs.Views.{grown_of}
 use Rattle.page_tree.proofs.Counted.{full_fork}
 use Rattle.page_tree.proofs.Gathered.{gathered}
 use Rattle.page_tree.proofs.build.+grow.Goals as goal
@@ -29,7 +29,7 @@ returns-clause-stored g t c =
 -- a fork has a page below it
 pub returns-clause-full : goal.returns-clause-full
 returns-clause-full g t c = (
-  full_fork c.args.index (grown c.in_ok-left-2.left.value) (grown c.in_ok-right-2.right.value) _ (returns-clause-stored g t c) c.in-Some.ensures.some,
+  full_fork c.args.index (grown_of c.in_ok-left-2.left.value) (grown_of c.in_ok-right-2.right.value) _ (returns-clause-stored g t c) c.in-Some.ensures.some,
   rw c.in_ok-left-2.ensures.ok c.in_ok-left.ensures.full,
   rw c.in_ok-right-2.ensures.ok c.in_ok-right.ensures.full,
 )

@@ -1,24 +1,47 @@
-use Rattle.std.proofs.Common.{ℕ, List, Ok, Option, subst}
-use Rattle.std.proofs.lemmas.Result.{IfOk-at_ok}
+use Rattle.std.proofs.Common.{rules, ◌≡◌, ℕ, List, Option, Err, subst}
 use Rattle.outside.specs.Files.{Files}
-use Rattle.elf_image.specs.Loaded.{Loads, image_of}
-use Rattle.prove_calls.specs.Words.{file_limit}
-use Rattle.prove_calls.specs.Guests.{IsInput}
-use Rattle.prove_calls.specs.Read.{IsOfFile}
-use Rattle.prove_calls.proofs.Reading.{holds_guest}
+use Rattle.elf_image.specs.Loaded.{image_of}
+use Rattle.command_frame.specs.Ends.{HasCause}
+use Rattle.command_frame.specs.Reading.{IsRead, IsUnread}
+use Rattle.command_frame.specs.declared.reading.TheConstants.{MOST_INPUT_BYTES}
+use Rattle.prove_calls.specs.Guest.{IsInput, IsBadInput}
+use Rattle.prove_calls.proofs.Answering.{no_image, no_input, bad_input, one_guest}
 use Rattle.prove_calls.proofs.guest.read_guest.Goals as goal
 
-pub returns-in-Ok-4-clause-guest : goal.returns-in-Ok-4-clause-guest
-returns-in-Ok-4-clause-guest g c =
-    let elf = c.args.elf.now in
-    let input = c.args.input.now in
+pub returns-in_err-image-clause-none : goal.returns-in_err-image-clause-none
+returns-in_err-image-clause-none g c =
     let told : Option Files = g.K.Desk.contents c.args.desk.now in
-    let image = image_of c.in-Ok-2.image in
-    let words = c.in-Ok-4.words.items in
-    let first : IsOfFile file_limit elf told (Ok c.in-Ok.bytes) = subst (IsOfFile file_limit elf told) c.in-Ok.is c.in_ok-bytes.ensures.file in
-    let second : IsOfFile file_limit input told (Ok c.in-Ok-3.bytes) =
-    subst (λ (t : Option Files). IsOfFile file_limit input t (Ok c.in-Ok-3.bytes)) c.read_file.ensures.files
-    (subst (IsOfFile file_limit input (g.K.Desk.contents c.read_file.new.desk)) c.in-Ok-3.is c.in_ok-bytes-2.ensures.file) in
-    let loads : Loads c.in-Ok.bytes.items image = subst (λ (b : List ℕ). Loads b image) c.as_slice.ensures (IfOk-at_ok _ c.in-Ok-2.is c.in_ok-image.ensures.loaded) in
-    let is_input : IsInput c.in-Ok-3.bytes.items words = subst (λ (b : List ℕ). IsInput b words) c.as_slice-2.ensures (IfOk-at_ok _ c.in-Ok-4.is c.in_ok-words.ensures.loaded) in
-    holds_guest elf input (record { image = c.in-Ok-2.image; words = c.in-Ok-4.words }) c.in-Ok.bytes c.in-Ok-3.bytes told first second loads is_input
+    let end = c.in_err-image.field-0.0 in
+    let is : c.from_residual.result ≡ Err end = search rules in
+    rw is (no_image c.args.elf.now c.args.input.now told end c.in_err-image.ensures.none)
+
+pub returns-in_err-bytes-clause-none : goal.returns-in_err-bytes-clause-none
+returns-in_err-bytes-clause-none g c =
+    let told : Option Files = g.K.Desk.contents c.args.desk.now in
+    let input = c.args.input.now in
+    let end = c.in_err-bytes.field-0.0 in
+    let is : c.from_residual-in_err-bytes.result ≡ Err end = search rules in
+    rw is
+    (no_input c.args.elf.now input told (image_of c.in_ok-image.image) c.in_ok-image.ensures.image end
+    (subst (λ (t : Option Files). HasCause (IsUnread MOST_INPUT_BYTES input t) end) c.read_image.ensures.contents c.in_err-bytes.ensures.unread))
+
+pub returns-in_err-words-clause-none : goal.returns-in_err-words-clause-none
+returns-in_err-words-clause-none g c =
+    let told : Option Files = g.K.Desk.contents c.args.desk.now in
+    let input = c.args.input.now in
+    let bytes : List ℕ = c.in_ok-bytes.bytes.items in
+    let end = c.in_err-words.field-0.0 in
+    let is : c.from_residual-in_err-words.result ≡ Err end = search rules in
+    let read = subst (λ (t : Option Files). IsRead MOST_INPUT_BYTES input t bytes) c.read_image.ensures.contents c.in_ok-bytes.ensures.read in
+    rw is
+    (bad_input c.args.elf.now input told (image_of c.in_ok-image.image) c.in_ok-image.ensures.image bytes read end
+    (subst (λ (b : List ℕ). HasCause (IsBadInput b) end) c.as_slice.ensures c.in_err-words.ensures.bad))
+
+pub returns-clause-guest : goal.returns-clause-guest
+returns-clause-guest g c =
+    let told : Option Files = g.K.Desk.contents c.args.desk.now in
+    let input = c.args.input.now in
+    let bytes : List ℕ = c.in_ok-bytes.bytes.items in
+    let read = subst (λ (t : Option Files). IsRead MOST_INPUT_BYTES input t bytes) c.read_image.ensures.contents c.in_ok-bytes.ensures.read in
+    one_guest c.args.elf.now input told (image_of c.in_ok-image.image) c.in_ok-image.ensures.image bytes read c.in_ok-words.words.items
+    (subst (λ (b : List ℕ). IsInput b c.in_ok-words.words.items) c.as_slice.ensures c.in_ok-words.ensures.words)

@@ -1,32 +1,61 @@
-use Rattle.std.proofs.Common.{Option, Ok, subst}
-use Rattle.std.specs.Prelude.{string_bytes}
-use Rattle.std.proofs.lemmas.Result.{IfOk-weaker, IfOk-at_ok}
+use Rattle.std.proofs.Common.{Option, sym, subst}
 use Rattle.outside.specs.Files.{Files}
-use Rattle.elf_image.specs.Loaded.{image_of}
-use Rattle.prove_calls.specs.Words.{Job}
-use Rattle.prove_calls.specs.Read.{IsOfGuest}
-use Rattle.prove_calls.specs.Answers.{IsExecuted}
-use Rattle.prove_calls.specs.Views.{job as seen}
-use Rattle.prove_calls.proofs.Answered.{no_guest, one_guest, executed_may}
+use Rattle.prove_calls.specs.Top.{ProveReads}
+use Rattle.prove_calls.proofs.Jobs.{default_job, prove_job, prove_usage, exec_job, generate_job, generate_usage}
 use Rattle.prove_calls.proofs.top.answer_job.Goals as goal
 
-pub returns-in-Ok-clause-answer : goal.returns-in-Ok-clause-answer
-returns-in-Ok-clause-answer g c =
-    let job : Job = seen c.args.job.now in
+pub returns-in-ProveDefault-clause-answer : goal.returns-in-ProveDefault-clause-answer
+returns-in-ProveDefault-clause-answer g c =
     let told : Option Files = g.K.Desk.contents c.args.desk.now in
-    let image = image_of c.in-Ok.guest.image in
-    let words = c.in-Ok.guest.words.items in
-    let of : IsOfGuest job.elf job.input told (Ok c.in-Ok.guest) = subst (IsOfGuest job.elf job.input told) c.in-Ok.is c.in_ok-guest.ensures.guest in
-    IfOk-weaker c.or_memory.result _ _
-    (λ printed made.
-    let executed = IfOk-at_ok _ made c.execute.ensures in
-    one_guest (λ image words status lines. IsExecuted image words job.limit status lines) job.elf job.input told c.in-Ok.guest printed.status (string_bytes printed.text) of
-    (executed_may image words job.limit printed.status (string_bytes printed.text) executed) executed)
-    c.or_memory.ensures.ok
+    let job = c.in-ProveDefault in
+    default_job g.D.Digester.digest_of told c.prove.result c.args.job job.elf job.input job.receipt job.is c.limits_of-limits.result c.limits_of-limits.ensures c.prove.ensures.answer
 
-pub returns-in-Err-clause-answer : goal.returns-in-Err-clause-answer
-returns-in-Err-clause-answer g c =
-    let job : Job = seen c.args.job.now in
+pub returns-then-workers-ne0-clause-answer : goal.returns-then-workers-ne0-clause-answer
+returns-then-workers-ne0-clause-answer g c =
     let told : Option Files = g.K.Desk.contents c.args.desk.now in
-    no_guest (λ image words status lines. IsExecuted image words job.limit status lines) job.elf job.input told c.in-Err.printed
-    (subst (IsOfGuest job.elf job.input told) c.in-Err.is c.in_ok-guest.ensures.guest)
+    let job = c.in-Prove in
+    prove_usage g.D.Digester.digest_of told c.usage.result c.args.job job.elf job.input job.receipt job.cycles job.pages job.limit job.workers job.others job.is c.if-workers-ne0.true c.usage.ensures.usage
+
+pub returns-else-workers-ne0-clause-answer : goal.returns-else-workers-ne0-clause-answer
+returns-else-workers-ne0-clause-answer g c =
+    let told : Option Files = g.K.Desk.contents c.args.desk.now in
+    let job = c.in-Prove in
+    prove_job g.D.Digester.digest_of told c.prove-in-Prove.result c.args.job job.elf job.input job.receipt job.cycles job.pages job.limit job.workers job.others job.is c.if-workers-ne0.false c.limits_of-limits-in-Prove.result
+    c.limits_of-limits-in-Prove.ensures c.as_slice.result.now c.as_slice.ensures c.prove-in-Prove.ensures.answer
+
+pub returns-in-Exec-clause-answer : goal.returns-in-Exec-clause-answer
+returns-in-Exec-clause-answer g c =
+    let told : Option Files = g.K.Desk.contents c.args.desk.now in
+    let job = c.in-Exec in
+    exec_job g.D.Digester.digest_of told c.exec.result c.args.job job.elf job.input job.limit job.is c.exec.ensures.answer
+
+pub returns-then-workers-ne0-2-clause-answer : goal.returns-then-workers-ne0-2-clause-answer
+returns-then-workers-ne0-2-clause-answer g c =
+    let told : Option Files = g.K.Desk.contents c.args.desk.now in
+    let job = c.in-Generate in
+    generate_usage g.D.Digester.digest_of told c.usage-then-workers-ne0-2.result c.args.job job.number job.size job.cycles job.pages job.workers job.is c.if-workers-ne0-2.true c.usage-then-workers-ne0-2.ensures.usage
+
+pub returns-else-workers-ne0-2-clause-answer : goal.returns-else-workers-ne0-2-clause-answer
+returns-else-workers-ne0-2-clause-answer g c =
+    let told : Option Files = g.K.Desk.contents c.args.desk.now in
+    let job = c.in-Generate in
+    generate_job g.D.Digester.digest_of told c.generate.result c.args.job job.number job.size job.cycles job.pages job.workers job.is c.if-workers-ne0-2.false c.limits_of.result
+    c.limits_of.ensures c.generate.ensures.answer
+
+pub returns-in-ProveDefault-clause-fault : goal.returns-in-ProveDefault-clause-fault
+returns-in-ProveDefault-clause-fault g c fault = (subst ProveReads (sym c.in-ProveDefault.is) tt, c.prove.ensures.fault fault)
+
+pub returns-then-workers-ne0-clause-fault : goal.returns-then-workers-ne0-clause-fault
+returns-then-workers-ne0-clause-fault g c fault = absurd (c.usage.ensures.no_fault fault)
+
+pub returns-else-workers-ne0-clause-fault : goal.returns-else-workers-ne0-clause-fault
+returns-else-workers-ne0-clause-fault g c fault = (subst ProveReads (sym c.in-Prove.is) c.if-workers-ne0.false, c.prove-in-Prove.ensures.fault fault)
+
+pub returns-in-Exec-clause-fault : goal.returns-in-Exec-clause-fault
+returns-in-Exec-clause-fault g c fault = (subst ProveReads (sym c.in-Exec.is) tt, c.exec.ensures.fault fault)
+
+pub returns-then-workers-ne0-2-clause-fault : goal.returns-then-workers-ne0-2-clause-fault
+returns-then-workers-ne0-2-clause-fault g c fault = absurd (c.usage-then-workers-ne0-2.ensures.no_fault fault)
+
+pub returns-else-workers-ne0-2-clause-fault : goal.returns-else-workers-ne0-2-clause-fault
+returns-else-workers-ne0-2-clause-fault g c fault = absurd (c.generate.ensures.no_fault fault)

@@ -1,27 +1,48 @@
-use Rattle.std.proofs.Common.{ℕ, List, take, ap, ◌∙◌, map}
-use Rattle.std.specs.Io.KnownBytes.{append_known}
+use Rattle.std.proofs.Common.{inl, inr, ℕ, Option, map, sym, subst}
 use Rattle.std.specs.Prelude.{string_bytes}
-use Rattle.cli_text.proofs.Ended.{ends_printed}
-use Rattle.prove_calls.specs.Answers.{Answers}
-use Rattle.prove_calls.proofs.Answered.{done_halted}
+use Rattle.outside.specs.Files.{Files}
+use Rattle.outside.specs.Faults.{Rose}
+use Rattle.command_frame.proofs.Causes.{cause_printed}
+use Rattle.command_frame.proofs.After.{done_or_fails, end_written, ends_after}
+use Rattle.prove_calls.specs.Top.{ExecTable}
+use Rattle.prove_calls.proofs.Tops.{is_run_done, is_run_complete}
 use Rattle.prove_calls.proofs.top.exec_top.Goals as goal
 
-pub returns-in-Ok-put-clause-halted : goal.returns-in-Ok-put-clause-halted
-returns-in-Ok-put-clause-halted g c done =
-    done_halted (map string_bytes c.args.words.now) (g.K.Desk.contents c.args.desk.now) c.in-Ok.printed.status (string_bytes c.in-Ok.printed.text) _ _ done c.in-Ok.ensures.answer
-    (c.in-Ok-put.ensures.told ∙ ap (append_known (g.O.Sink.taken c.args.out.now)) c.as_bytes.ensures.value)
-
-pub returns-in-Ok-put-clause-answer : goal.returns-in-Ok-put-clause-answer
-returns-in-Ok-put-clause-answer g c =
-    ends_printed (Answers (map string_bytes c.args.words.now) (g.K.Desk.contents c.args.desk.now))
-    c.in-Ok.printed.status (string_bytes c.in-Ok.printed.text) _ _ c.in-Ok.ensures.answer c.in-Ok.ensures.printed
-    (c.in-Ok-put.ensures.told ∙ ap (append_known (g.O.Sink.taken c.args.out.now)) c.as_bytes.ensures.value)
+pub put_end-requires : goal.put_end-requires
+put_end-requires g c = cause_printed (ExecTable (map string_bytes c.args.words.now) (g.K.Desk.contents c.args.desk.now)) c.answer_exec-end.result c.answer_exec-end.ensures.answer
 
 pub returns-clause-answer : goal.returns-clause-answer
 returns-clause-answer g c =
-    let (k, told) = c.in-Err-put.ensures.told in (
-      c.in-Ok.printed.status,
-      record { lines = string_bytes c.in-Ok.printed.text; answers = c.in-Ok.ensures.answer },
-      k,
-      told ∙ ap (λ (text : List ℕ). append_known (g.O.Sink.taken c.args.out.now) (take k text)) c.as_bytes.ensures.value,
-    )
+    let told : Option Files = g.K.Desk.contents c.args.desk.now in
+    ends_after (ExecTable (map string_bytes c.args.words.now) told) c.answer_exec-end.result c.put_end.result told _ _ _ _ c.answer_exec-end.ensures.contents c.answer_exec-end.ensures.answer c.put_end.ensures.puts
+
+pub returns-clause-done : goal.returns-clause-done
+returns-clause-done g c done =
+    let words = map string_bytes c.args.words.now in
+    let told : Option Files = g.K.Desk.contents c.args.desk.now in
+    is_run_done words c.put_end.result told _ _ _ done
+    (ends_after (ExecTable words told) c.answer_exec-end.result c.put_end.result told _ _ _ _ c.answer_exec-end.ensures.contents c.answer_exec-end.ensures.answer c.put_end.ensures.puts)
+
+pub returns-clause-complete : goal.returns-clause-complete
+returns-clause-complete g c complete =
+    let words = map string_bytes c.args.words.now in
+    let told : Option Files = g.K.Desk.contents c.args.desk.now in
+    done_or_fails (ExecTable words told) c.answer_exec-end.result c.put_end.result _ _ _ _ c.answer_exec-end.ensures.answer
+    (λ status lines kept answers. is_run_complete words told complete status lines kept answers) c.put_end.ensures.puts
+
+pub returns-clause-read_fault : goal.returns-clause-read_fault
+returns-clause-read_fault g c fault =
+    let (names, rose) = c.answer_exec-end.ensures.fault (c.put_end.ensures.read_fault fault) in
+    (names, subst (Rose (g.K.Desk.read_faults c.args.desk.now)) (sym c.put_end.ensures.reads) rose)
+
+pub returns-clause-write_fault : goal.returns-clause-write_fault
+returns-clause-write_fault g c fault =
+    let words = map string_bytes c.args.words.now in
+    let told : Option Files = g.K.Desk.contents c.args.desk.now in
+    elim (c.put_end.ensures.write_fault fault) [
+      | inl both ↦ inl (
+        end_written (ExecTable words told) c.answer_exec-end.result c.answer_exec-end.ensures.answer both.0,
+        subst (λ (n : ℕ). Rose n (g.K.Desk.write_faults c.put_end.new.desk)) c.answer_exec-end.ensures.write_faults both.1,
+      )
+      | inr put ↦ inr put
+    ]

@@ -1,32 +1,53 @@
-use Rattle.std.proofs.Common.{Option, map}
+use Rattle.std.proofs.Common.{inl, inr, ℕ, Option, map, sym, subst}
 use Rattle.std.specs.Prelude.{string_bytes}
 use Rattle.outside.specs.Files.{Files}
-use Rattle.prove_calls.specs.Words.{Proof, NamesProof}
-use Rattle.prove_calls.specs.Answers.{Answers}
-use Rattle.prove_calls.specs.Proving.{AnswersProof, AnswersAll}
-use Rattle.prove_calls.specs.Views.{proof as seen}
-use Rattle.prove_calls.proofs.Answered.{answers_proof, answers_exec, done_proved}
-use Rattle.prove_calls.proofs.Ended.{ends_also, ends_alone}
+use Rattle.outside.specs.Faults.{Rose}
+use Rattle.command_frame.proofs.Causes.{cause_printed}
+use Rattle.command_frame.proofs.After.{done_or_fails, end_written, ends_after}
+use Rattle.prove_calls.specs.Top.{ProveTable}
+use Rattle.prove_calls.proofs.Tops.{is_done, is_complete}
 use Rattle.prove_calls.proofs.top.prove_top.Goals as goal
 
-pub returns-in-Ok-Some-clause-done : goal.returns-in-Ok-Some-clause-done
-returns-in-Ok-Some-clause-done g c done =
-    let words = map string_bytes c.args.words.now in
-    let names : NamesProof words (seen c.in-Ok-Some.proof) = rw c.in-Ok-Some.field-0-is at c.in-Ok-Some.ensures.some in
-    done_proved g.D.Digester.digest_of words (seen c.in-Ok-Some.proof) names c.prove.result (g.K.Desk.contents c.args.desk.now) _ _ _ done c.prove.ensures.answer
+pub put_end-requires : goal.put_end-requires
+put_end-requires g c =
+    cause_printed (ProveTable g.D.Digester.digest_of (map string_bytes c.args.words.now) (g.K.Desk.contents c.args.desk.now)) c.answer-end.result c.answer-end.ensures.answer
 
-pub returns-in-Ok-Some-clause-answer : goal.returns-in-Ok-Some-clause-answer
-returns-in-Ok-Some-clause-answer g c =
+pub returns-clause-answer : goal.returns-clause-answer
+returns-clause-answer g c =
+    let told : Option Files = g.K.Desk.contents c.args.desk.now in
+    ends_after (ProveTable g.D.Digester.digest_of (map string_bytes c.args.words.now) told) c.answer-end.result c.put_end.result told _ _ _ _ c.answer-end.ensures.contents c.answer-end.ensures.answer
+    c.put_end.ensures.puts
+
+pub returns-clause-done : goal.returns-clause-done
+returns-clause-done g c done =
     let H = g.D.Digester.digest_of in
     let words = map string_bytes c.args.words.now in
     let told : Option Files = g.K.Desk.contents c.args.desk.now in
-    let names : NamesProof words (seen c.in-Ok-Some.proof) = rw c.in-Ok-Some.field-0-is at c.in-Ok-Some.ensures.some in
-    ends_also (AnswersProof H (seen c.in-Ok-Some.proof) told) (AnswersAll H words told) (answers_proof H words told (seen c.in-Ok-Some.proof) names) c.prove.result told _ _ _ c.prove.ensures.answer
+    is_done H words c.put_end.result told _ _ _ done
+    (ends_after (ProveTable H words told) c.answer-end.result c.put_end.result told _ _ _ _ c.answer-end.ensures.contents c.answer-end.ensures.answer c.put_end.ensures.puts)
 
-pub returns-in-Ok-None-clause-answer : goal.returns-in-Ok-None-clause-answer
-returns-in-Ok-None-clause-answer g c =
+pub returns-clause-complete : goal.returns-clause-complete
+returns-clause-complete g c complete =
     let H = g.D.Digester.digest_of in
     let words = map string_bytes c.args.words.now in
     let told : Option Files = g.K.Desk.contents c.args.desk.now in
-    let none : (proof : Proof) → NamesProof words proof → ⊥ = rw c.in-Ok-None.field-0-is at c.in-Ok-None.ensures.none in
-    ends_alone (Answers words told) (AnswersAll H words told) (answers_exec H words told none) c.exec_top.result told _ _ _ c.exec_top.ensures.files c.exec_top.ensures.answer
+    done_or_fails (ProveTable H words told) c.answer-end.result c.put_end.result _ _ _ _ c.answer-end.ensures.answer
+    (λ status lines kept answers. is_complete H words told complete status lines kept answers) c.put_end.ensures.puts
+
+pub returns-clause-read_fault : goal.returns-clause-read_fault
+returns-clause-read_fault g c fault =
+    let (names, rose) = c.answer-end.ensures.fault (c.put_end.ensures.read_fault fault) in
+    (names, subst (Rose (g.K.Desk.read_faults c.args.desk.now)) (sym c.put_end.ensures.reads) rose)
+
+pub returns-clause-write_fault : goal.returns-clause-write_fault
+returns-clause-write_fault g c fault =
+    let H = g.D.Digester.digest_of in
+    let words = map string_bytes c.args.words.now in
+    let told : Option Files = g.K.Desk.contents c.args.desk.now in
+    elim (c.put_end.ensures.write_fault fault) [
+      | inl both ↦ inl (
+        end_written (ProveTable H words told) c.answer-end.result c.answer-end.ensures.answer both.0,
+        subst (λ (n : ℕ). Rose n (g.K.Desk.write_faults c.put_end.new.desk)) c.answer-end.ensures.write_faults both.1,
+      )
+      | inr put ↦ inr put
+    ]

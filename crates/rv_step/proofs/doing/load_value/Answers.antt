@@ -1,11 +1,11 @@
 use Rattle.std.proofs.Common.{◌^◌, ap, ◌∙◌}
 use Rattle.page_core.specs.Memory.{bytes}
-use Rattle.rv_step.specs.Machine.{extended}
+use Rattle.rv_step.specs.Machine.{sign_extension}
 use Rattle.rv_step.proofs.doing.load_value.Goals as goal
 
 pub returns-in-Lb : goal.returns-in-Lb
 unfolding bytes
-returns-in-Lb g c = rw c.in-Lb.is (c.sign_extended.ensures ∙ ap (extended (2 ^ 7)) (c.from.ensures ∙ c.load_byte.ensures))
+returns-in-Lb g c = rw c.in-Lb.is (c.sign_extended.ensures ∙ ap (sign_extension (2 ^ 7)) (c.from.ensures ∙ c.load_byte.ensures))
 
 pub returns-in-Lbu : goal.returns-in-Lbu
 unfolding bytes

@@ -1,6 +1,6 @@
 use Rattle.std.proofs.Common.{◌<◌, length, sym, ap, ◌∙◌, arith}
 use Rattle.page_core.specs.Memory.{top}
-use Rattle.rv_step.specs.Machine.{State, supplied}
+use Rattle.rv_step.specs.Machine.{State, act_with_words}
 use Rattle.rv_step.specs.Tapes.{no_log}
 use Rattle.rv_step.specs.Stepping.{state_at}
 use Rattle.rv_step.proofs.Looks.{fetched_out, fetched_in, sound_told}
@@ -23,7 +23,7 @@ returns-clause-answer g c = λ log.
     fetched_in (g.B.Bus.opens c.args.bus.now) s c.load_word.result c.act_at-act.result c.supply.result
     (sym c.is_open.ensures ∙ c.if-not-is_open.false) below (sym c.is_open-2.ensures ∙ c.if-not-is_open-2.false)
     c.load_word.ensures.value c.act_at-act.ensures.meaning
-    (c.supply.ensures.meaning ∙ ap (λ words. supplied (length words) c.act_at-act.result) c.rest.ensures)
+    (c.supply.ensures.meaning ∙ ap (λ words. act_with_words (length words) c.act_at-act.result) c.rest.ensures)
 
 pub returns-clause-sound : goal.returns-clause-sound
 returns-clause-sound g c =

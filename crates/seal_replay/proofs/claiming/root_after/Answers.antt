@@ -1,6 +1,6 @@
 use Rattle.std.proofs.Common.{ap, ◌∙◌}
 use Rattle.page_core.specs.Memories.{flat, page_of}
-use Rattle.part_tree.specs.Part.{root_of, opened}
+use Rattle.part_tree.specs.Part.{root_of, open_numbers}
 use Rattle.part_tree.specs.Views.{part}
 use Rattle.rv_step.specs.Machine.{full_of}
 use Rattle.rv_step.specs.Opened.{pages_in}
@@ -13,4 +13,4 @@ returns g c =
     c.node_after.ensures
     ∙ ap (root_of g.D.Digester.digest_of)
     (put_same 0 (part c.args.tree.now) (page_of (flat (pages_in c.write_registers.new.pages))) (page_of (full_of (flat (pages_in c.args.pages)) c.args.regs.now))
-    (λ p h. c.write_registers.ensures.bytes p (c.requires.«open» p ∙ is_among-from_Contains (opened 0 (part c.args.tree.now)) p h)))
+    (λ p h. c.write_registers.ensures.bytes p (c.requires.«open» p ∙ is_among-from_Contains (open_numbers 0 (part c.args.tree.now)) p h)))

@@ -2,14 +2,14 @@ use Rattle.std.proofs.Common.{◌≡◌, ℕ, ◌<◌, ⊎_elim, inl, inr, sym, 
 use Rattle.std.proofs.lemmas.List.{length-replicate, nil_from_length}
 use Rattle.std.proofs.lemmas.Result.{err_from_is_err_and}
 use Rattle.page_core.specs.Memories.{flat}
-use Rattle.part_tree.specs.Part.{Part, page_at, opened}
+use Rattle.part_tree.specs.Part.{Part, page_at, open_numbers}
 use Rattle.part_tree.specs.Views.{part}
 use Rattle.receipt_types.specs.Seals.{Seal}
 use Rattle.rv_step.specs.Opened.{page_in, pages_in}
 use Rattle.rv_step.specs.Machine.{State, first_closed}
 use Rattle.rv_step.specs.Stepping.{state_at}
 use Rattle.rv_step.specs.Tapes.{Tape, no_log}
-use Rattle.seal_replay.specs.Replay.{opened_by, memory_of, registers_in}
+use Rattle.seal_replay.specs.Replay.{opened_by, seal_memory, registers_in}
 use Rattle.seal_replay.proofs.Shown.{opens_same, memory_same, open_number}
 use Rattle.seal_replay.proofs.Marked.{none_marked}
 use Rattle.seal_replay.proofs.Ended.{step_stopped, words_left, idle_left, nothing_left}
@@ -27,9 +27,9 @@ run-requires-clause-enters c =
     let tree : part c.seal.inside.tree ≡ c.args.seal.now.tree = ap (λ (seal : Seal). seal.tree) c.seal.view_is in
     let same : (n : ℕ) → page_in c.in_ok-pages.pages n ≡ page_at 0 c.args.seal.now.tree n =
     λ n. c.in_ok-pages.ensures n ∙ ap (λ (t : Part). page_at 0 t n) tree in
-    let memory : flat (pages_in c.in_ok-pages.pages) ≡ memory_of c.args.seal.now = memory_same c.args.seal.now.tree c.in_ok-pages.pages same in
+    let memory : flat (pages_in c.in_ok-pages.pages) ≡ seal_memory c.args.seal.now = memory_same c.args.seal.now.tree c.in_ok-pages.pages same in
     let pc : c.seal.inside.pc ≡ c.args.seal.now.pc = ap (λ (seal : Seal). seal.pc) c.seal.view_is in
-    let regs : c.registers.result ≡ registers_in (memory_of c.args.seal.now) = c.registers.ensures ∙ ap registers_in memory in
+    let regs : c.registers.result ≡ registers_in (seal_memory c.args.seal.now) = c.registers.ensures ∙ ap registers_in memory in
     let words : drop c.in_ok-tape.tape.used c.in_ok-tape.tape.words ≡ c.args.seal.now.words =
     ap (λ (t : Tape). drop t.used t.words) c.in_ok-tape.ensures ∙ ap (λ (seal : Seal). seal.words) c.seal.view_is in
     let log : c.new-log.result ≡ no_log = c.new-log.ensures in
@@ -61,7 +61,7 @@ returns-in-Some-clause-stop c =
     let s : State = state_at c.run.new.core (flat (pages_in c.run.new.bus)) c.run.new.tape c.run.new.log in
     let none : s.words ≡ [] = nil_from_length s.words (ap length (sym c.rest-left.ensures) ∙ c.if-left-ne0.false) in
     let tree : part c.seal.inside.tree ≡ c.args.seal.now.tree = ap (λ (seal : Seal). seal.tree) c.seal.view_is in
-    let numbers : c.as_slice-2.result.now ≡ opened_by c.args.seal.now = c.as_slice-2.ensures ∙ c.in_ok-numbers.ensures ∙ ap (opened 0) tree in
+    let numbers : c.as_slice-2.result.now ≡ opened_by c.args.seal.now = c.as_slice-2.ensures ∙ c.in_ok-numbers.ensures ∙ ap (open_numbers 0) tree in
     inr (idle_left c.args.seal.now c.in_ok-exit.exit s c.run.new.marks c.in_ok-exit.ensures.ended c.in-Some.page none
     (sym c.in-Some.is ∙ c.first_unmarked.ensures ∙ ap (first_closed (λ p. get_or c.run.new.marks p false)) numbers))
 
@@ -70,7 +70,7 @@ returns-clause-ended c =
     let s : State = state_at c.run.new.core (flat (pages_in c.run.new.bus)) c.run.new.tape c.run.new.log in
     let none : s.words ≡ [] = nil_from_length s.words (ap length (sym c.rest-left.ensures) ∙ c.if-left-ne0.false) in
     let tree : part c.seal.inside.tree ≡ c.args.seal.now.tree = ap (λ (seal : Seal). seal.tree) c.seal.view_is in
-    let numbers : c.as_slice-2.result.now ≡ opened_by c.args.seal.now = c.as_slice-2.ensures ∙ c.in_ok-numbers.ensures ∙ ap (opened 0) tree in
+    let numbers : c.as_slice-2.result.now ≡ opened_by c.args.seal.now = c.as_slice-2.ensures ∙ c.in_ok-numbers.ensures ∙ ap (open_numbers 0) tree in
     let same : (n : ℕ) → page_in c.in_ok-pages.pages n ≡ page_at 0 c.args.seal.now.tree n =
     λ n. c.in_ok-pages.ensures n ∙ ap (λ (t : Part). page_at 0 t n) tree in
     record {

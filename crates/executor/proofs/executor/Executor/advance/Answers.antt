@@ -2,8 +2,8 @@ use Rattle.std.proofs.Common.{◌≡◌, ℕ, List, false, Some, None, refl, sym
 use Rattle.page_core.specs.Images.{Image}
 use Rattle.host_calls.specs.Meters.{Metered}
 use Rattle.rv_step.specs.Runs.{start}
-use Rattle.rv_step.specs.declared.outcome.Outcome.TheVariants.{Halted as HaltedWith, Faulted as FaultedAt, OverLimit as Over}
-use Rattle.flat_machine.specs.Going.{Stands as IsRun, DoesOne, EndsSo}
+use Rattle.rv_step.specs.declared.outcome.Outcome.TheVariants.{Halted as HaltedAt, Faulted as FaultedAt, OverLimit as Over}
+use Rattle.flat_machine.specs.Going.{IsRunOf, DoesOne, IsRunEnd}
 use Rattle.executor.specs.Cutting.{Cutting, IsCutting}
 use Rattle.page_core.proofs.Options.{none_from}
 use Rattle.executor.proofs.UnderWay.{none_told, has_outcome, few_steps, with_meter, before, stands_before, stands_moved, cutting_moved, stands_stepped, cutting_stepped, stands_ended, cutting_ended, whole_ended, whole_full, some_of, some_not_none, room_at}
@@ -66,9 +66,9 @@ invariant_of-self-in-Some-Halted g c =
     let b = before _ _ j _ m c.self.view_is c.self-2.view_is c.begin.ensures.same c.reserve.ensures.same c.look-looked.result.foot c.look-looked.result.cost c.in_ok-begin.ensures.begun c.self-2.invariant (none_from c.self.inside.outcome (sym c.is_some.ensures ∙ c.if-is_some.false)) c.look-looked.ensures.foot c.look-looked.ensures.cost (sym c.fits.ensures ∙ c.if-not-fits.false) in
     let ended = rw (c.in-Some-Halted.is ∙ ap Some c.in-Some-Halted.field-0-is) at c.in_ok-step.ensures.ended in
     let last = (rw (c.in-Some-Halted.is ∙ ap Some c.in-Some-Halted.field-0-is) at c.in_ok-step.ensures.last) b.on in
-    let told = λ (image : Image) (words : List ℕ) (run : IsRun c.self-2.inside.flat image words).
-    has_outcome c.step.new.self image words c.self-2.inside.limits.limit (HaltedWith c.in-Some-Halted.code) (subst (λ (n : ℕ). EndsSo c.step.new.self image words n (HaltedWith c.in-Some-Halted.code)) c.limit.ensures.value (ended image words run)) in
-    cutting_stepped (with_meter j m) c.step.new.self c.add_step-in-Some-Halted.new.meter.segment (Some (HaltedWith c.in-Some-Halted.code)) b.untold b.on b.held last.0 (omega (arith, c.step.ensures.within, c.limit.ensures.value)) b.cutting.cycles b.cutting.pages
+    let told = λ (image : Image) (words : List ℕ) (run : IsRunOf c.self-2.inside.flat image words).
+    has_outcome c.step.new.self image words c.self-2.inside.limits.limit (HaltedAt c.in-Some-Halted.code) (subst (λ (n : ℕ). IsRunEnd c.step.new.self image words n (HaltedAt c.in-Some-Halted.code)) c.limit.ensures.value (ended image words run)) in
+    cutting_stepped (with_meter j m) c.step.new.self c.add_step-in-Some-Halted.new.meter.segment (Some (HaltedAt c.in-Some-Halted.code)) b.untold b.on b.held last.0 (omega (arith, c.step.ensures.within, c.limit.ensures.value)) b.cutting.cycles b.cutting.pages
     c.look-looked.result.foot c.look-looked.result.cost b.foot_is b.cost_is b.room c.add_step-in-Some-Halted.ensures c.step.ensures.stands told (λ none. some_not_none _ _ refl none) b.cutting
 
 pub invariant_of-self-in-Some-Faulted : goal.invariant_of-self-in-Some-Faulted
@@ -78,8 +78,8 @@ invariant_of-self-in-Some-Faulted g c =
     let b = before _ _ j _ m c.self.view_is c.self-2.view_is c.begin.ensures.same c.reserve.ensures.same c.look-looked.result.foot c.look-looked.result.cost c.in_ok-begin.ensures.begun c.self-2.invariant (none_from c.self.inside.outcome (sym c.is_some.ensures ∙ c.if-is_some.false)) c.look-looked.ensures.foot c.look-looked.ensures.cost (sym c.fits.ensures ∙ c.if-not-fits.false) in
     let ended = rw (c.in-Some-Faulted.is ∙ ap Some c.in-Some-Faulted.field-0-is) at c.in_ok-step.ensures.ended in
     let last = (rw (c.in-Some-Faulted.is ∙ ap Some c.in-Some-Faulted.field-0-is) at c.in_ok-step.ensures.last) b.on in
-    let told = λ (image : Image) (words : List ℕ) (run : IsRun c.self-2.inside.flat image words).
-    has_outcome c.step.new.self image words c.self-2.inside.limits.limit (FaultedAt c.in-Some-Faulted.fault c.in-Some-Faulted.pc c.in-Some-Faulted.step) (subst (λ (n : ℕ). EndsSo c.step.new.self image words n (FaultedAt c.in-Some-Faulted.fault c.in-Some-Faulted.pc c.in-Some-Faulted.step)) c.limit.ensures.value (ended image words run)) in
+    let told = λ (image : Image) (words : List ℕ) (run : IsRunOf c.self-2.inside.flat image words).
+    has_outcome c.step.new.self image words c.self-2.inside.limits.limit (FaultedAt c.in-Some-Faulted.fault c.in-Some-Faulted.pc c.in-Some-Faulted.step) (subst (λ (n : ℕ). IsRunEnd c.step.new.self image words n (FaultedAt c.in-Some-Faulted.fault c.in-Some-Faulted.pc c.in-Some-Faulted.step)) c.limit.ensures.value (ended image words run)) in
     cutting_ended (with_meter j m) c.step.new.self (FaultedAt c.in-Some-Faulted.fault c.in-Some-Faulted.pc c.in-Some-Faulted.step) b.untold last c.step.ensures.stands told b.cutting
 
 pub invariant_of-self-in-Some-OverLimit : goal.invariant_of-self-in-Some-OverLimit
@@ -89,8 +89,8 @@ invariant_of-self-in-Some-OverLimit g c =
     let b = before _ _ j _ m c.self.view_is c.self-2.view_is c.begin.ensures.same c.reserve.ensures.same c.look-looked.result.foot c.look-looked.result.cost c.in_ok-begin.ensures.begun c.self-2.invariant (none_from c.self.inside.outcome (sym c.is_some.ensures ∙ c.if-is_some.false)) c.look-looked.ensures.foot c.look-looked.ensures.cost (sym c.fits.ensures ∙ c.if-not-fits.false) in
     let ended = rw (c.in-Some-OverLimit.is ∙ ap Some c.in-Some-OverLimit.field-0-is) at c.in_ok-step.ensures.ended in
     let last = (rw (c.in-Some-OverLimit.is ∙ ap Some c.in-Some-OverLimit.field-0-is) at c.in_ok-step.ensures.last) b.on in
-    let told = λ (image : Image) (words : List ℕ) (run : IsRun c.self-2.inside.flat image words).
-    has_outcome c.step.new.self image words c.self-2.inside.limits.limit (Over c.in-Some-OverLimit.step) (subst (λ (n : ℕ). EndsSo c.step.new.self image words n (Over c.in-Some-OverLimit.step)) c.limit.ensures.value (ended image words run)) in
+    let told = λ (image : Image) (words : List ℕ) (run : IsRunOf c.self-2.inside.flat image words).
+    has_outcome c.step.new.self image words c.self-2.inside.limits.limit (Over c.in-Some-OverLimit.step) (subst (λ (n : ℕ). IsRunEnd c.step.new.self image words n (Over c.in-Some-OverLimit.step)) c.limit.ensures.value (ended image words run)) in
     cutting_ended (with_meter j m) c.step.new.self (Over c.in-Some-OverLimit.step) b.untold last c.step.ensures.stands told b.cutting
 
 pub returns-in-None-clause-stands : goal.returns-in-None-clause-stands
@@ -110,14 +110,14 @@ returns-in-Some-Halted-clause-stands g c image words stands =
     let b = before _ _ j _ m c.self.view_is c.self-2.view_is c.begin.ensures.same c.reserve.ensures.same c.look-looked.result.foot c.look-looked.result.cost c.in_ok-begin.ensures.begun c.self-2.invariant (none_from c.self.inside.outcome (sym c.is_some.ensures ∙ c.if-is_some.false)) c.look-looked.ensures.foot c.look-looked.ensures.cost (sym c.fits.ensures ∙ c.if-not-fits.false) in
     let ended = rw (c.in-Some-Halted.is ∙ ap Some c.in-Some-Halted.field-0-is) at c.in_ok-step.ensures.ended in
     let last = (rw (c.in-Some-Halted.is ∙ ap Some c.in-Some-Halted.field-0-is) at c.in_ok-step.ensures.last) b.on in
-    let told = λ (image : Image) (words : List ℕ) (run : IsRun c.self-2.inside.flat image words).
-    has_outcome c.step.new.self image words c.self-2.inside.limits.limit (HaltedWith c.in-Some-Halted.code) (subst (λ (n : ℕ). EndsSo c.step.new.self image words n (HaltedWith c.in-Some-Halted.code)) c.limit.ensures.value (ended image words run)) in
+    let told = λ (image : Image) (words : List ℕ) (run : IsRunOf c.self-2.inside.flat image words).
+    has_outcome c.step.new.self image words c.self-2.inside.limits.limit (HaltedAt c.in-Some-Halted.code) (subst (λ (n : ℕ). IsRunEnd c.step.new.self image words n (HaltedAt c.in-Some-Halted.code)) c.limit.ensures.value (ended image words run)) in
     let here = stands_before _ _ j _ m c.self.view_is c.self-2.view_is c.begin.ensures.same c.reserve.ensures.same image words (c.begin.ensures.stands image words stands) in
-    stands_stepped (with_meter j m) c.step.new.self c.add_step-in-Some-Halted.new.meter.segment (Some (HaltedWith c.in-Some-Halted.code)) b.untold b.on b.held last.0 (omega (arith, c.step.ensures.within, c.limit.ensures.value)) b.cutting.cycles b.cutting.pages
+    stands_stepped (with_meter j m) c.step.new.self c.add_step-in-Some-Halted.new.meter.segment (Some (HaltedAt c.in-Some-Halted.code)) b.untold b.on b.held last.0 (omega (arith, c.step.ensures.within, c.limit.ensures.value)) b.cutting.cycles b.cutting.pages
     c.look-looked.result.foot c.look-looked.result.cost b.foot_is b.cost_is b.room c.add_step-in-Some-Halted.ensures image words (c.step.ensures.stands image words here.run) (told image words here.run) here
 
 pub returns-in-Some-Halted-clause-whole : goal.returns-in-Some-Halted-clause-whole
-returns-in-Some-Halted-clause-whole g c _ image words stands = whole_ended (start image words) _ (HaltedWith c.in-Some-Halted.code) refl stands.segment
+returns-in-Some-Halted-clause-whole g c _ image words stands = whole_ended (start image words) _ (HaltedAt c.in-Some-Halted.code) refl stands.segment
 
 pub returns-in-Some-Faulted-clause-stands : goal.returns-in-Some-Faulted-clause-stands
 returns-in-Some-Faulted-clause-stands g c image words stands =
@@ -126,8 +126,8 @@ returns-in-Some-Faulted-clause-stands g c image words stands =
     let b = before _ _ j _ m c.self.view_is c.self-2.view_is c.begin.ensures.same c.reserve.ensures.same c.look-looked.result.foot c.look-looked.result.cost c.in_ok-begin.ensures.begun c.self-2.invariant (none_from c.self.inside.outcome (sym c.is_some.ensures ∙ c.if-is_some.false)) c.look-looked.ensures.foot c.look-looked.ensures.cost (sym c.fits.ensures ∙ c.if-not-fits.false) in
     let ended = rw (c.in-Some-Faulted.is ∙ ap Some c.in-Some-Faulted.field-0-is) at c.in_ok-step.ensures.ended in
     let last = (rw (c.in-Some-Faulted.is ∙ ap Some c.in-Some-Faulted.field-0-is) at c.in_ok-step.ensures.last) b.on in
-    let told = λ (image : Image) (words : List ℕ) (run : IsRun c.self-2.inside.flat image words).
-    has_outcome c.step.new.self image words c.self-2.inside.limits.limit (FaultedAt c.in-Some-Faulted.fault c.in-Some-Faulted.pc c.in-Some-Faulted.step) (subst (λ (n : ℕ). EndsSo c.step.new.self image words n (FaultedAt c.in-Some-Faulted.fault c.in-Some-Faulted.pc c.in-Some-Faulted.step)) c.limit.ensures.value (ended image words run)) in
+    let told = λ (image : Image) (words : List ℕ) (run : IsRunOf c.self-2.inside.flat image words).
+    has_outcome c.step.new.self image words c.self-2.inside.limits.limit (FaultedAt c.in-Some-Faulted.fault c.in-Some-Faulted.pc c.in-Some-Faulted.step) (subst (λ (n : ℕ). IsRunEnd c.step.new.self image words n (FaultedAt c.in-Some-Faulted.fault c.in-Some-Faulted.pc c.in-Some-Faulted.step)) c.limit.ensures.value (ended image words run)) in
     let here = stands_before _ _ j _ m c.self.view_is c.self-2.view_is c.begin.ensures.same c.reserve.ensures.same image words (c.begin.ensures.stands image words stands) in
     stands_ended (with_meter j m) c.step.new.self (FaultedAt c.in-Some-Faulted.fault c.in-Some-Faulted.pc c.in-Some-Faulted.step) b.untold last image words (c.step.ensures.stands image words here.run) (told image words here.run) here
 
@@ -141,8 +141,8 @@ returns-in-Some-OverLimit-clause-stands g c image words stands =
     let b = before _ _ j _ m c.self.view_is c.self-2.view_is c.begin.ensures.same c.reserve.ensures.same c.look-looked.result.foot c.look-looked.result.cost c.in_ok-begin.ensures.begun c.self-2.invariant (none_from c.self.inside.outcome (sym c.is_some.ensures ∙ c.if-is_some.false)) c.look-looked.ensures.foot c.look-looked.ensures.cost (sym c.fits.ensures ∙ c.if-not-fits.false) in
     let ended = rw (c.in-Some-OverLimit.is ∙ ap Some c.in-Some-OverLimit.field-0-is) at c.in_ok-step.ensures.ended in
     let last = (rw (c.in-Some-OverLimit.is ∙ ap Some c.in-Some-OverLimit.field-0-is) at c.in_ok-step.ensures.last) b.on in
-    let told = λ (image : Image) (words : List ℕ) (run : IsRun c.self-2.inside.flat image words).
-    has_outcome c.step.new.self image words c.self-2.inside.limits.limit (Over c.in-Some-OverLimit.step) (subst (λ (n : ℕ). EndsSo c.step.new.self image words n (Over c.in-Some-OverLimit.step)) c.limit.ensures.value (ended image words run)) in
+    let told = λ (image : Image) (words : List ℕ) (run : IsRunOf c.self-2.inside.flat image words).
+    has_outcome c.step.new.self image words c.self-2.inside.limits.limit (Over c.in-Some-OverLimit.step) (subst (λ (n : ℕ). IsRunEnd c.step.new.self image words n (Over c.in-Some-OverLimit.step)) c.limit.ensures.value (ended image words run)) in
     let here = stands_before _ _ j _ m c.self.view_is c.self-2.view_is c.begin.ensures.same c.reserve.ensures.same image words (c.begin.ensures.stands image words stands) in
     stands_ended (with_meter j m) c.step.new.self (Over c.in-Some-OverLimit.step) b.untold last image words (c.step.ensures.stands image words here.run) (told image words here.run) here
 

@@ -4,7 +4,7 @@ use Rattle.rv_step.specs.Runs.{start, IsOutcome}
 use Rattle.receipt_types.specs.Bundles.{item}
 use Rattle.executor.specs.Segments.{Limits, lengths}
 use Rattle.executor.specs.Proving.{cut_seals}
-use Rattle.executor.specs.Cutting.{Cutting, Stands, IsWhole, IsCutting}
+use Rattle.executor.specs.Cutting.{Cutting, CutsRun, IsWhole, IsCutting}
 use Rattle.executor.proofs.UnderWay.{some_not_none}
 use Rattle.executor.proofs.Onward.{over, has_ended, has_more, stands_given, cutting_given}
 use Rattle.executor.proofs.executor.Executor.next.Goals as goal
@@ -38,18 +38,18 @@ unreachable-requires g c =
     let (o, is) = has_ended (start h.image h.words) c.advance.new.self h.stands.segment (c.in_ok-advance.ensures.whole c.if-branch.false h.image h.words h.stands) (ap (λ (x : Cutting). x.steps) (sym c.self.view_is) ∙ c.if-self-eq0.true) in
     some_not_none o c.self.inside.outcome (ap (λ (x : Cutting). x.outcome) c.self.view_is ∙ is) c.in-None.is
 
-pub returns-then-self-eq-MOST_CUTS-clause-stands : goal.returns-then-self-eq-MOST_CUTS-clause-stands
-returns-then-self-eq-MOST_CUTS-clause-stands g c image words stands = c.advance.ensures.stands image words (c.loop.invariant.0 image words stands)
+pub returns-then-self-eq-MOST_SEALS-clause-stands : goal.returns-then-self-eq-MOST_SEALS-clause-stands
+returns-then-self-eq-MOST_SEALS-clause-stands g c image words stands = c.advance.ensures.stands image words (c.loop.invariant.0 image words stands)
 
-pub returns-then-self-eq-MOST_CUTS-clause-gives : goal.returns-then-self-eq-MOST_CUTS-clause-gives
-returns-then-self-eq-MOST_CUTS-clause-gives g c image words stands =
+pub returns-then-self-eq-MOST_SEALS-clause-gives : goal.returns-then-self-eq-MOST_SEALS-clause-gives
+returns-then-self-eq-MOST_SEALS-clause-gives g c image words stands =
     let limits = c.advance.ensures.same.0 ∙ c.loop.invariant.1 in
     let number = c.advance.ensures.same.1 ∙ c.loop.invariant.2 in
     let here = c.advance.ensures.stands image words (c.loop.invariant.0 image words stands) in
     let steps = ap (λ (x : Cutting). x.steps) c.self.view_is in
     let more = has_more c.advance.new.self (omega (arith, c.if-self-eq0.false, steps)) image words here (c.in_ok-advance.ensures.whole c.if-branch.false image words here) in
     let given = ap (λ (x : Cutting). x.number) c.self.view_is in
-    (omega (arith, number, given, c.if-self-eq-MOST_CUTS.true), omega (arith, number, more, ap (λ (l : Limits). length (lengths l (start image words))) limits), number)
+    (omega (arith, number, given, c.if-self-eq-MOST_SEALS.true), omega (arith, number, more, ap (λ (l : Limits). length (lengths l (start image words))) limits), number)
 
 pub cut-requires-clause-whole : goal.cut-requires-clause-whole
 cut-requires-clause-whole g c κs within image words stands = c.in_ok-advance.ensures.whole c.if-branch.false image words stands
@@ -60,15 +60,15 @@ returns-in_err-cut-clause-stands g c image words stands = c.advance.ensures.stan
 pub invariant_of-self : goal.invariant_of-self
 invariant_of-self g c =
     let v : Cutting = record { going = c.self.inside.flat; limits = c.self.inside.limits; number = c.self.inside.number; beginning = c.self.inside.beginning; steps = c.self.inside.steps; meter = c.self.inside.meter.segment; outcome = c.self.inside.outcome } in
-    let whole = subst (λ (x : Cutting). (image : Image) (words : List ℕ) → (stands : Stands x image words) → IsWhole (start image words) x stands.segment) (sym c.self.view_is) (c.in_ok-advance.ensures.whole c.if-branch.false) in
+    let whole = subst (λ (x : Cutting). (image : Image) (words : List ℕ) → (stands : CutsRun x image words) → IsWhole (start image words) x stands.segment) (sym c.self.view_is) (c.in_ok-advance.ensures.whole c.if-branch.false) in
     let h : IsCutting v = c.self.invariant in
-    cutting_given v c.clear.new.self.segment (omega (arith, c.if-self-eq0.false)) c.clear.ensures h (whole h.image h.words h.stands) (omega (arith, h.number, c.if-self-eq-MOST_CUTS.false))
+    cutting_given v c.clear.new.self.segment (omega (arith, c.if-self-eq0.false)) c.clear.ensures h (whole h.image h.words h.stands) (omega (arith, h.number, c.if-self-eq-MOST_SEALS.false))
 
 pub returns-clause-stands : goal.returns-clause-stands
 returns-clause-stands g c image words stands =
     let v : Cutting = record { going = c.self.inside.flat; limits = c.self.inside.limits; number = c.self.inside.number; beginning = c.self.inside.beginning; steps = c.self.inside.steps; meter = c.self.inside.meter.segment; outcome = c.self.inside.outcome } in
-    let whole = subst (λ (x : Cutting). (image : Image) (words : List ℕ) → (stands : Stands x image words) → IsWhole (start image words) x stands.segment) (sym c.self.view_is) (c.in_ok-advance.ensures.whole c.if-branch.false) in
-    let here : Stands v image words = subst (λ (x : Cutting). Stands x image words) (sym c.self.view_is) (c.advance.ensures.stands image words (c.loop.invariant.0 image words stands)) in
+    let whole = subst (λ (x : Cutting). (image : Image) (words : List ℕ) → (stands : CutsRun x image words) → IsWhole (start image words) x stands.segment) (sym c.self.view_is) (c.in_ok-advance.ensures.whole c.if-branch.false) in
+    let here : CutsRun v image words = subst (λ (x : Cutting). CutsRun x image words) (sym c.self.view_is) (c.advance.ensures.stands image words (c.loop.invariant.0 image words stands)) in
     stands_given v c.clear.new.self.segment (omega (arith, c.if-self-eq0.false)) c.clear.ensures c.self.invariant.halted image words here (whole image words here)
 
 pub returns-clause-gives : goal.returns-clause-gives
@@ -77,7 +77,7 @@ returns-clause-gives g c image words stands =
     let number = c.advance.ensures.same.1 ∙ c.loop.invariant.2 in
     let here = c.advance.ensures.stands image words (c.loop.invariant.0 image words stands) in
     let given = ap (λ (x : Cutting). x.number) c.self.view_is in (
-      omega (arith, number, given, c.self.invariant.number, c.if-self-eq-MOST_CUTS.false),
+      omega (arith, number, given, c.self.invariant.number, c.if-self-eq-MOST_SEALS.false),
       c.in_ok-cut.ensures.number ∙ number,
       ap₂ (λ (l : Limits) (n : ℕ). item (cut_seals g.D.Digester.digest_of l (start image words)) n) (sym limits) (sym number) ∙ c.in_ok-cut.ensures.seal image words here,
       omega (arith, number, given),

@@ -4,7 +4,7 @@ use Rattle.rv_step.specs.Stepping.{state_at}
 use Rattle.rv_step.specs.declared.stepping.Paid.{Paid}
 use Rattle.rv_step.proofs.Small.{step_is_small}
 use Rattle.flat_machine.specs.Layers.{memory_in}
-use Rattle.flat_machine.specs.Going.{Going, Stands}
+use Rattle.flat_machine.specs.Going.{Going, IsRunOf}
 use Rattle.flat_machine.proofs.RunFeet.{rest_on, some_cost}
 use Rattle.flat_machine.proofs.RunPaid.{paid_cost, paid_went, paid_halted, too_dear, paid_fault, no_memory, no_miss}
 use Rattle.flat_machine.proofs.RunSteps.{uncut_same, all_words, stands_still, stands_on, stops, stopped, some_code, no_code}
@@ -52,7 +52,7 @@ returns-in-Went-clause-stands c image words stands =
     let cost : c.in-Ok-Some.paid.cost ≡ step_cost s = paid_cost s t 257 c.step_within.result c.step_within.ensures.answer c.in-Ok-Some.paid took in
     let on : c.self.inside.halted ≡ None = no_code c.self.inside.halted (sym c.is_some.ensures ∙ c.if-is_some.false) in
     stands_on _ _ (all_words c.self.inside.tape c.step_within.new.tape c.step_within.ensures.same_words) refl (ap (λ (n : ℕ). c.self.inside.cycles + n) (c.from.ensures ∙ ap (λ (p : Paid). p.cost) c.in-Ok-Some.paid-is ∙ cost)) on image words
-    (subst (λ (g : Going). Stands g image words) (sym c.self.view_is) stands) on
+    (subst (λ (g : Going). IsRunOf g image words) (sym c.self.view_is) stands) on
     (paid_went s t 257 c.step_within.result c.step_within.ensures.answer c.in-Ok-Some.paid took (sym (ap (λ (p : Paid). p.event) c.in-Ok-Some.paid-is) ∙ c.in-Went.is))
 
 pub returns-in-Halted-clause-stays : goal.returns-in-Halted-clause-stays
@@ -64,7 +64,7 @@ returns-in-Halted-clause-stays c _ =
     paid_halted s t 257 c.step_within.result c.step_within.ensures.answer c.in-Ok-Some.paid c.in-Halted.field-0 took (sym (ap (λ (p : Paid). p.event) c.in-Ok-Some.paid-is) ∙ c.in-Halted.is) in (
       ap (λ (g : Going). g.steps) c.self.view_is,
       λ image words stands.
-          stops _ image words (stands_still _ _ halts.1 (all_words c.self.inside.tape c.step_within.new.tape c.step_within.ensures.same_words) refl refl refl image words (subst (λ (g : Going). Stands g image words) (sym c.self.view_is) stands))
+          stops _ image words (stands_still _ _ halts.1 (all_words c.self.inside.tape c.step_within.new.tape c.step_within.ensures.same_words) refl refl refl image words (subst (λ (g : Going). IsRunOf g image words) (sym c.self.view_is) stands))
           (Halted c.in-Halted.field-0) (ap step_of halts.1 ∙ halts.0) refl,
     )
 
@@ -76,7 +76,7 @@ returns-in-Err-Fault-clause-stays c _ =
     paid_fault s t 257 c.step_within.result c.step_within.ensures.answer c.in-Err-Fault.field-0-0 (c.in-Err-Fault.is ∙ ap Err c.in-Err-Fault.field-0-is) in (
       ap (λ (g : Going). g.steps) c.self.view_is,
       λ image words stands.
-          stops _ image words (stands_still _ _ faults.2 (all_words c.self.inside.tape c.step_within.new.tape c.step_within.ensures.same_words) refl refl refl image words (subst (λ (g : Going). Stands g image words) (sym c.self.view_is) stands))
+          stops _ image words (stands_still _ _ faults.2 (all_words c.self.inside.tape c.step_within.new.tape c.step_within.ensures.same_words) refl refl refl image words (subst (λ (g : Going). IsRunOf g image words) (sym c.self.view_is) stands))
           (Faulted c.in-Err-Fault.field-0-0) (ap step_of faults.2 ∙ faults.1) refl,
     )
 

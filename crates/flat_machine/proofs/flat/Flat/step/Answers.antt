@@ -4,7 +4,7 @@ use Rattle.rv_step.specs.Stepping.{state_at}
 use Rattle.rv_step.specs.declared.stepping.Paid.{Paid}
 use Rattle.rv_step.proofs.Small.{step_is_small}
 use Rattle.flat_machine.specs.Layers.{memory_in}
-use Rattle.flat_machine.specs.Going.{Going, Stands}
+use Rattle.flat_machine.specs.Going.{Going, IsRunOf}
 use Rattle.flat_machine.proofs.RunFeet.{rest_on, rest_same, some_cost}
 use Rattle.flat_machine.proofs.RunPaid.{paid_cost, paid_room, paid_went, paid_halted, too_dear, paid_fault, no_memory, no_miss}
 use Rattle.flat_machine.proofs.RunSteps.{uncut_same, all_words, stands_still, stands_on, stands_halted, ends_halted, ends_over, ends_faulted}
@@ -67,7 +67,7 @@ returns-in-Went-clause-stands c image words stands =
     let cost : c.in-Ok-Some.paid.cost ≡ step_cost s =
     paid_cost s t (c.args.limit - c.self.inside.cycles) c.step_within.result c.step_within.ensures.answer c.in-Ok-Some.paid took in
     stands_on _ _ (all_words c.self.inside.tape c.step_within.new.tape c.step_within.ensures.same_words) refl (ap (λ (n : ℕ). c.self.inside.cycles + n) (c.from.ensures ∙ ap (λ (p : Paid). p.cost) c.in-Ok-Some.paid-is ∙ cost)) c.in_default.is image words
-    (subst (λ (g : Going). Stands g image words) (sym c.self.view_is) stands) c.in_default.is
+    (subst (λ (g : Going). IsRunOf g image words) (sym c.self.view_is) stands) c.in_default.is
     (paid_went s t (c.args.limit - c.self.inside.cycles) c.step_within.result c.step_within.ensures.answer c.in-Ok-Some.paid took (sym (ap (λ (p : Paid). p.event) c.in-Ok-Some.paid-is) ∙ c.in-Went.is))
 
 pub returns-in-Went-clause-went : goal.returns-in-Went-clause-went
@@ -94,7 +94,7 @@ returns-in-Halted-clause-stands c image words stands =
     let halts : (step_of s ≡ Halted c.in-Halted.code) × (t ≡ s) =
     paid_halted s t (c.args.limit - c.self.inside.cycles) c.step_within.result c.step_within.ensures.answer c.in-Ok-Some.paid c.in-Halted.code took (sym (ap (λ (p : Paid). p.event) c.in-Ok-Some.paid-is) ∙ c.in-Halted.is) in
     stands_halted _ _ (all_words c.self.inside.tape c.step_within.new.tape c.step_within.ensures.same_words) refl (ap (λ (n : ℕ). c.self.inside.cycles + n) (c.from.ensures ∙ ap (λ (p : Paid). p.cost) c.in-Ok-Some.paid-is ∙ cost)) c.in_default.is image words
-    (subst (λ (g : Going). Stands g image words) (sym c.self.view_is) stands) c.in-Halted.code refl halts.0 halts.1
+    (subst (λ (g : Going). IsRunOf g image words) (sym c.self.view_is) stands) c.in-Halted.code refl halts.0 halts.1
 
 pub returns-in-Halted-clause-ended : goal.returns-in-Halted-clause-ended
 returns-in-Halted-clause-ended c image words stands =
@@ -127,7 +127,7 @@ returns-in-Ok-None-clause-ended c image words stands =
     let t : State = state_at c.step_within.new.core (memory_in c.step_within.new.bus) c.step_within.new.tape c.step_within.new.log in
     let dear : (c.args.limit - c.self.inside.cycles < step_cost s) × (t ≡ s) =
     too_dear s t (c.args.limit - c.self.inside.cycles) c.step_within.result c.step_within.ensures.answer (c.in-Ok-None.is ∙ ap Ok c.in-Ok-None.field-0-is) in
-    ends_over _ image words c.args.limit (stands_still _ _ dear.1 (all_words c.self.inside.tape c.step_within.new.tape c.step_within.ensures.same_words) refl refl refl image words (subst (λ (g : Going). Stands g image words) (sym c.self.view_is) stands))
+    ends_over _ image words c.args.limit (stands_still _ _ dear.1 (all_words c.self.inside.tape c.step_within.new.tape c.step_within.ensures.same_words) refl refl refl image words (subst (λ (g : Going). IsRunOf g image words) (sym c.self.view_is) stands))
     (omega (arith, c.requires, ap (λ (g : Going). g.cycles) c.self.view_is)) c.in_default.is
     (subst (λ (u : State). c.args.limit - c.self.inside.cycles < step_cost u) (sym dear.1) dear.0)
 
@@ -137,7 +137,7 @@ returns-in-Err-Fault-clause-ended c image words stands =
     let t : State = state_at c.step_within.new.core (memory_in c.step_within.new.bus) c.step_within.new.tape c.step_within.new.log in
     let faults : (step_cost s ≤ c.args.limit - c.self.inside.cycles) × (step_of s ≡ Faulted c.in-Err-Fault.fault) × (t ≡ s) =
     paid_fault s t (c.args.limit - c.self.inside.cycles) c.step_within.result c.step_within.ensures.answer c.in-Err-Fault.fault (c.in-Err-Fault.is ∙ ap Err c.in-Err-Fault.field-0-is) in
-    ends_faulted _ image words c.args.limit (stands_still _ _ faults.2 (all_words c.self.inside.tape c.step_within.new.tape c.step_within.ensures.same_words) refl refl refl image words (subst (λ (g : Going). Stands g image words) (sym c.self.view_is) stands))
+    ends_faulted _ image words c.args.limit (stands_still _ _ faults.2 (all_words c.self.inside.tape c.step_within.new.tape c.step_within.ensures.same_words) refl refl refl image words (subst (λ (g : Going). IsRunOf g image words) (sym c.self.view_is) stands))
     (omega (arith, c.requires, ap (λ (g : Going). g.cycles) c.self.view_is)) c.in_default.is c.in-Err-Fault.fault
     (subst (λ (u : State). step_cost u ≤ c.args.limit - c.self.inside.cycles) (sym faults.2) faults.0)
     (ap step_of faults.2 ∙ faults.1)

@@ -1,0 +1,5 @@
+pub mod After
+pub mod Causes
+pub mod Whole
+pub mod Unread
+pub mod Public

@@ -1,0 +1,5 @@
+-- The lemmas that crates above may cite stand in these files.
+-- an ELF file loads one image
+pub use Rattle.elf_image.proofs.Unique
+-- where a loaded image begins
+pub use Rattle.elf_image.proofs.Entries
