@@ -26,11 +26,13 @@ pub fn check_top<D: Digester, K: Desk, O: Sink>(
     ensures done { result ≡ Status.Done → IsDoneCheck D.digest_of (map string_bytes words.now)
         (K.contents desk.old) (K.contents desk.new) (O.taken out.old) (O.taken out.new) }
     // Where nothing stands against it, the status is 0, or there was a fault or want of memory.
-    ensures complete { CompletesCheck D.digest_of (map string_bytes words.now) (K.contents desk.old) →
+    ensures complete { CompletesCheck D.digest_of (map string_bytes words.now)
+        (K.contents desk.old) →
         IsDoneOrFails result }
 
     // The status, the lines and the file are those of an answer, but for a fault and want of memory.
-    ensures answer { Ends (CheckTable D.digest_of (map string_bytes words.now) (K.contents desk.old)) result
+    ensures answer { Ends
+        (CheckTable D.digest_of (map string_bytes words.now) (K.contents desk.old)) result
         (K.contents desk.old) (K.contents desk.new) (O.taken out.old) (O.taken out.new) }
     ensures read_fault { result ≡ Status.ReadFault → NamesSomeCheck (map string_bytes words.now)
         × Rose (K.read_faults desk.old) (K.read_faults desk.new) }
@@ -49,7 +51,8 @@ pub fn check_top<D: Digester, K: Desk, O: Sink>(
 
 // How the command of the words ends.
 fn answer<D: Digester, K: Desk>(alloc: Global, words: &[String], desk: &mut K) -> End
-    ensures answer { HasCause (CheckTable D.digest_of (map string_bytes words.now) (K.contents desk.old)) result }
+    ensures answer { HasCause
+        (CheckTable D.digest_of (map string_bytes words.now) (K.contents desk.old)) result }
     ensures fault { result ≡ End.ReadFault → NamesSomeCheck (map string_bytes words.now)
         × Rose (K.read_faults desk.old) (K.read_faults desk.new) }
     ensures contents { K.contents desk.new ≡ K.contents desk.old }

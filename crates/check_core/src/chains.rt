@@ -25,7 +25,8 @@ pub(crate) fn chain_claims<D: Digester>(
     requires { KeepsLimits bundle.now }
     ensures unstopped { IfOk result (λ _. entries_stop D.digest_of 0 bundle.now ≡ None) }
     ensures claims { IfOk result (λ claims. AreClaims D.digest_of bundle.now claims.items) }
-    ensures stop { IfErr result (λ stop. (stop ≡ Memory) ⊎ (entries_stop D.digest_of 0 bundle.now ≡ Some stop)) }
+    ensures stop { IfErr result
+        (λ stop. (stop ≡ Memory) ⊎ (entries_stop D.digest_of 0 bundle.now ≡ Some stop)) }
 {
     let mut claims = Vec::new(alloc);
     let mut number = 0u16;
@@ -48,9 +49,12 @@ fn chain_claim<D: Digester>(
     requires some { entry.now.seals ≢ [] }
     requires few { length entry.now.seals ≤ MOST_SEALS }
     requires limits { AllSealLimits entry.now.seals }
-    ensures unstopped { IfOk result (λ _. seals_stop D.digest_of number 0 None entry.now.seals ≡ None) }
+    ensures unstopped { IfOk result
+        (λ _. seals_stop D.digest_of number 0 None entry.now.seals ≡ None) }
     ensures chain { IfOk result (λ claim. chain_of D.digest_of entry.now.seals ≡ Some claim) }
-    ensures stop { IfErr result (λ stop. (stop ≡ Memory) ⊎ (seals_stop D.digest_of number 0 None entry.now.seals ≡ Some stop)) }
+    ensures stop { IfErr result
+        (λ stop. (stop ≡ Memory)
+        ⊎ (seals_stop D.digest_of number 0 None entry.now.seals ≡ Some stop)) }
 {
     let seals = entry.seals.as_slice();
     let mut chain = None;
@@ -76,9 +80,16 @@ fn with_seal<D: Digester>(
     seal: &Seal,
 ) -> Result<SpanClaim, CheckStop>
     requires { SealLimits seal.now }
-    ensures unstopped { IfOk result (λ _. seal_stop D.digest_of number place (option_map (λ claim. claim.after) chain) seal.now is_last ≡ None) }
-    ensures joined { IfOk result (λ claim. (next : spec.SpanClaim) × (claim_of D.digest_of seal.now ≡ Some next) × (claim ≡ join_next chain next)) }
-    ensures stop { IfErr result (λ stop. (stop ≡ Memory) ⊎ (seal_stop D.digest_of number place (option_map (λ claim. claim.after) chain) seal.now is_last ≡ Some stop)) }
+    ensures unstopped { IfOk result
+        (λ _. seal_stop D.digest_of number place (option_map (λ claim. claim.after) chain) seal.now
+        is_last ≡ None) }
+    ensures joined { IfOk result
+        (λ claim. (next : spec.SpanClaim) × (claim_of D.digest_of seal.now ≡ Some next)
+        × (claim ≡ join_next chain next)) }
+    ensures stop { IfErr result
+        (λ stop. (stop ≡ Memory)
+        ⊎ (seal_stop D.digest_of number place (option_map (λ claim. claim.after) chain) seal.now
+        is_last ≡ Some stop)) }
 {
     let claim = match replay::<D>(alloc, seal) {
         Ok(claim) => claim,
@@ -107,8 +118,12 @@ fn broken(entry: u16, seal: u32, stop: ReplayStop) -> CheckStop
 
 // Tests that a seal begins where the claim of those before it ends, if there are any.
 fn joint(entry: u16, seal: u32, chain: &Option<SpanClaim>, before: &State) -> Result<(), CheckStop>
-    ensures ok { IfOk result (λ _. joint_stop entry seal (option_map (λ claim. claim.after) chain.now) before.now ≡ None) }
-    ensures stop { IfErr result (λ stop. joint_stop entry seal (option_map (λ claim. claim.after) chain.now) before.now ≡ Some stop) }
+    ensures ok { IfOk result
+        (λ _. joint_stop entry seal (option_map (λ claim. claim.after) chain.now)
+        before.now ≡ None) }
+    ensures stop { IfErr result
+        (λ stop. joint_stop entry seal (option_map (λ claim. claim.after) chain.now) before.now
+        ≡ Some stop) }
 {
     match chain {
         Some(claim) if claim.after != *before => Err(CheckStop::Unjoined {

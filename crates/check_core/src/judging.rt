@@ -20,7 +20,8 @@ use std::alloc::Global;
 /// The digest of the state in which a bundle that keeps the limits of a receipt begins. It takes no memory.
 pub fn first_id<D: Digester>(bundle: &Bundle) -> Digest
     requires { KeepsLimits bundle.now }
-    ensures { option_map (state_digest D.digest_of) (first_at D.digest_of bundle.now 0) ≡ Some result }
+    ensures { option_map (state_digest D.digest_of) (first_at D.digest_of bundle.now 0)
+        ≡ Some result }
 {
     let Some(entry) = bundle.entries.as_slice().first() else {
         unreachable!();

@@ -24,7 +24,8 @@ pub(crate) fn test_links<D: Digester>(
     requires claims { AreClaims D.digest_of bundle.now claims.now }
     requires reports { spec.entry_reports D.digest_of bundle.now ≡ Some reports.now }
     ensures ok { IfOk result (λ _. all_links_stop D.digest_of bundle.now 0 bundle.now ≡ None) }
-    ensures stop { IfErr result (λ stop. all_links_stop D.digest_of bundle.now 0 bundle.now ≡ Some stop) }
+    ensures stop { IfErr result
+        (λ stop. all_links_stop D.digest_of bundle.now 0 bundle.now ≡ Some stop) }
 {
     let mut number = 0u16;
     for (entry, claim) in bundle.entries.as_slice().iter().zip(claims) {
@@ -43,8 +44,12 @@ fn test_entry<D: Digester>(
 ) -> Result<(), CheckStop>
     requires few { length entry.now.links ≤ MOST_LINKS }
     requires links { All (λ link. link < length reports.now) entry.now.links }
-    ensures ok { IfOk result (λ _. (B : plain.Bundle) → TellDigests D.digest_of B reports.now → links_stop D.digest_of B number (Some claim.now) entry.now.links ≡ None) }
-    ensures stop { IfErr result (λ stop. (B : plain.Bundle) → TellDigests D.digest_of B reports.now → links_stop D.digest_of B number (Some claim.now) entry.now.links ≡ Some stop) }
+    ensures ok { IfOk result
+        (λ _. (B : plain.Bundle) → TellDigests D.digest_of B reports.now →
+        links_stop D.digest_of B number (Some claim.now) entry.now.links ≡ None) }
+    ensures stop { IfErr result
+        (λ stop. (B : plain.Bundle) → TellDigests D.digest_of B reports.now →
+        links_stop D.digest_of B number (Some claim.now) entry.now.links ≡ Some stop) }
 {
     let calls = claim.calls.as_slice();
     let links = entry.links.as_slice();
@@ -68,8 +73,12 @@ fn test_calls<D: Digester>(
     requires same { length calls.now ≡ length links.now }
     requires few { length links.now ≤ MOST_LINKS }
     requires links { All (λ link. link < length reports.now) links.now }
-    ensures ok { IfOk result (λ _. (B : plain.Bundle) → TellDigests D.digest_of B reports.now → calls_stop D.digest_of B number 0 calls.now links.now ≡ None) }
-    ensures stop { IfErr result (λ stop. (B : plain.Bundle) → TellDigests D.digest_of B reports.now → calls_stop D.digest_of B number 0 calls.now links.now ≡ Some stop) }
+    ensures ok { IfOk result
+        (λ _. (B : plain.Bundle) → TellDigests D.digest_of B reports.now →
+        calls_stop D.digest_of B number 0 calls.now links.now ≡ None) }
+    ensures stop { IfErr result
+        (λ stop. (B : plain.Bundle) → TellDigests D.digest_of B reports.now →
+        calls_stop D.digest_of B number 0 calls.now links.now ≡ Some stop) }
 {
     let mut place = 0u32;
     for (call, link) in calls.iter().zip(links) {

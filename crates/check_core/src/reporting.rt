@@ -22,7 +22,8 @@ pub(crate) fn entry_reports<D: Digester>(
 ) -> Result<ClaimList, AllocError>
     requires limits { KeepsLimits bundle.now }
     requires claims { AreClaims D.digest_of bundle.now claims.now }
-    ensures { IfOk result (λ reports. spec.entry_reports D.digest_of bundle.now ≡ Some reports.items) }
+    ensures { IfOk result
+        (λ reports. spec.entry_reports D.digest_of bundle.now ≡ Some reports.items) }
 {
     let mut reports = ClaimList::new(alloc);
     for (entry, claim) in bundle.entries.as_slice().iter().zip(claims) {

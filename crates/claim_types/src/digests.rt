@@ -47,7 +47,8 @@ fn digest_of_parts<D: Digester>(
     output: &Digest,
     exit: Exit,
 ) -> Digest
-    ensures { result ≡ D.digest_of (claims.claim_string_of D.digest_of before.now after.now output.now exit) }
+    ensures { result
+        ≡ D.digest_of (claims.claim_string_of D.digest_of before.now after.now output.now exit) }
 {
     let words = exit_pair(exit);
     tagged::<D>(
@@ -59,7 +60,9 @@ fn digest_of_parts<D: Digester>(
 
 // The digest of a claim with this digest of its assumptions.
 fn digest_with<D: Digester>(claim: &SpanClaim, assumptions: &Digest) -> Digest
-    ensures { result ≡ D.digest_of (claims.claim_string_with D.digest_of claim.now (claims.output_string D.digest_of (D.digest_of claim.now.journal) assumptions.now)) }
+    ensures { result
+        ≡ D.digest_of (claims.claim_string_with D.digest_of claim.now
+        (claims.output_string D.digest_of (D.digest_of claim.now.journal) assumptions.now)) }
 {
     let journal = hash::<D>(claim.journal.as_slice());
     let output = output_digest::<D>(&journal, assumptions);
@@ -78,7 +81,8 @@ pub fn claim_digest<D: Digester>(claim: &SpanClaim) -> Digest
 /// The digest of the claim that an assumption names: the image of this id halts with 0 and a journal
 /// of this digest. It takes no memory.
 pub fn ok_claim_digest<D: Digester>(image: &Digest, journal: &Digest) -> Digest
-    ensures { result ≡ claims.ok_digest D.digest_of (record { image = image.now; journal = journal.now }) }
+    ensures { result
+        ≡ claims.ok_digest D.digest_of (record { image = image.now; journal = journal.now }) }
 {
     let output = output_digest::<D>(journal, &zero_digest());
     let after = state_digest::<D>(&State::halted());

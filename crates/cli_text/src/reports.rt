@@ -38,7 +38,8 @@ pub fn generate_text(
     report: &Report,
     bytes: u64,
 ) -> Result<ByteList, AllocError>
-    ensures { IfOk result (λ text. text.items ≡ generated_lines number size elf words cycles report.now bytes) }
+    ensures { IfOk result
+        (λ text. text.items ≡ generated_lines number size elf words cycles report.now bytes) }
 {
     let made = made_text(alloc, report, bytes)?;
     let text = format!(in alloc;
@@ -57,7 +58,8 @@ fn made_text(alloc: Global, report: &Report, bytes: u64) -> Result<String, Alloc
 
 // The lines of a report.
 fn report_text(alloc: Global, report: &Report) -> Result<String, AllocError>
-    ensures { IfOk result (λ text. string_bytes text ≡ report_lines report.now.journal report.now.entries) }
+    ensures { IfOk result
+        (λ text. string_bytes text ≡ report_lines report.now.journal report.now.entries) }
 {
     let entries = report.entries.as_slice();
     let Some(first) = entries.first() else {

@@ -18,7 +18,8 @@ pub fn halted_text(
     journal: &[u8],
     assumptions: u64,
 ) -> Result<ByteList, AllocError>
-    ensures { IfOk result (λ text. text.items ≡ halted_lines code steps cycles journal.now assumptions) }
+    ensures { IfOk result
+        (λ text. text.items ≡ halted_lines code steps cycles journal.now assumptions) }
 {
     let journal = journal_text(alloc, journal)?;
     let text = format!(in alloc;

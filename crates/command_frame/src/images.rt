@@ -31,7 +31,8 @@ pub fn load_image(alloc: Global, bytes: &[u8]) -> Result<Image, End>
 /// The image that the ELF file of a name loads. Err: there is no such file, it is too long or fails a test, the read failed, or
 /// memory was wanting. The desk holds what it held.
 pub fn read_image<K: Desk>(alloc: Global, desk: &mut K, name: &str) -> Result<Image, End>
-    ensures image { IfOk result (λ image. HasImage name.now (K.contents desk.old) (image_of image)) }
+    ensures image { IfOk result
+        (λ image. HasImage name.now (K.contents desk.old) (image_of image)) }
     ensures none { IfErr result (HasCause (HasNoImage name.now (K.contents desk.old))) }
     ensures fault { result ≡ Err End.ReadFault →
         Rose (K.read_faults desk.old) (K.read_faults desk.new) }

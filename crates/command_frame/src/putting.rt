@@ -48,7 +48,8 @@ fn put_answer<K: Desk, O: Sink>(desk: &mut K, out: &mut O, answer: &Answer) -> R
 
 // Writes the file of an answer, if there is one.
 fn write_file<K: Desk>(desk: &mut K, file: &Option<NewFile>) -> Result<(), Failed>
-    ensures done { OnOk result (K.contents desk.new ≡ files_after (new_file file.now) (K.contents desk.old)) }
+    ensures done { OnOk result
+        (K.contents desk.new ≡ files_after (new_file file.now) (K.contents desk.old)) }
     ensures failed { OnErr result ((taken : Option (List ℕ)) →
         MayFailWrite (new_file file.now) (K.contents desk.old) (K.contents desk.new) taken taken) }
     ensures fault { OnErr result

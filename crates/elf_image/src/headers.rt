@@ -34,7 +34,9 @@ pub(crate) fn file_header(file: &[u8]) -> Result<FileHeader, ElfStop>
     ensures at { IfOk result (λ header. header.headers_at ≡ headers.headers_at file.now) }
     ensures count { IfOk result (λ header. header.header_count ≡ headers.header_count file.now) }
     ensures few { IfOk result (λ header. header.header_count ≤ 64) }
-    ensures within { IfOk result (λ header. (header.header_count ≡ 0) ⊎ (header.headers_at + 32 * header.header_count ≤ length file.now)) }
+    ensures within { IfOk result
+        (λ header. (header.header_count ≡ 0)
+        ⊎ (header.headers_at + 32 * header.header_count ≤ length file.now)) }
     ensures fault { IfErr result (λ stop. first_fault (header_tests file.now) ≡ Some stop) }
 {
     if file.len() < 52 {

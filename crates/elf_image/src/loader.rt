@@ -21,7 +21,8 @@ use std::alloc::{AllocError, Global};
 /// memory.
 pub fn load(alloc: Global, file: &[u8]) -> Result<Image, ElfStop>
     ensures loads { IfOk result (λ image. Loads file.now (image_of image)) }
-    ensures fault { IfErr result (λ stop. (stop ≡ ElfStop.Memory) ⊎ (elf_fault file.now ≡ Some stop)) }
+    ensures fault { IfErr result
+        (λ stop. (stop ≡ ElfStop.Memory) ⊎ (elf_fault file.now ≡ Some stop)) }
 {
     let header = file_header(file)?;
     let loads = load_headers(alloc, file, &header)?;
@@ -40,9 +41,12 @@ pub fn load(alloc: Global, file: &[u8]) -> Result<Image, ElfStop>
 
 // Puts the file bytes of a load header into memory.
 fn copy(map: &mut PageMap, file: &[u8], load: &LoadHeader) -> Result<(), AllocError>
-    requires within { (load.now.file_size ≡ 0) ⊎ (load.now.offset + load.now.file_size ≤ length file.now) }
+    requires within { (load.now.file_size ≡ 0)
+        ⊎ (load.now.offset + load.now.file_size ≤ length file.now) }
     requires below { (load.now.file_size ≡ 0) ⊎ (load.now.address + load.now.file_size ≤ top) }
-    ensures { OnOk result ((a : ℕ) → memory_of map.new a ≡ (if in_file load.now a then loaded_byte file.now load.now a else memory_of map.old a)) }
+    ensures { OnOk result
+        ((a : ℕ) → memory_of map.new a
+        ≡ (if in_file load.now a then loaded_byte file.now load.now a else memory_of map.old a)) }
 {
     if load.file_size == 0 {
         return Ok(());

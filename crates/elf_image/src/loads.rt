@@ -58,10 +58,16 @@ pub(crate) fn load_headers(
 ) -> Result<LoadList, ElfStop>
     requires at { header.now.headers_at ≡ headers.headers_at file.now }
     requires count { header.now.header_count ≡ headers.header_count file.now }
-    requires within { (header.now.header_count ≡ 0) ⊎ (header.now.headers_at + 32 * header.now.header_count ≤ length file.now) }
+    requires within { (header.now.header_count ≡ 0)
+        ⊎ (header.now.headers_at + 32 * header.now.header_count ≤ length file.now) }
     ensures loads { IfOk result (λ loads. loads.items ≡ headers.loads_of file.now) }
-    ensures passes { IfOk result (λ loads. tests.first_fault (tests.all_load_tests file.now [] (headers.loads_of file.now)) ≡ None) }
-    ensures fault { IfErr result (λ stop. (stop ≡ ElfStop.Memory) ⊎ (tests.first_fault (tests.all_load_tests file.now [] (headers.loads_of file.now)) ≡ Some stop)) }
+    ensures passes { IfOk result
+        (λ loads. tests.first_fault
+        (tests.all_load_tests file.now [] (headers.loads_of file.now)) ≡ None) }
+    ensures fault { IfErr result
+        (λ stop. (stop ≡ ElfStop.Memory)
+        ⊎ (tests.first_fault (tests.all_load_tests file.now [] (headers.loads_of file.now))
+        ≡ Some stop)) }
 {
     let mut loads = LoadList::new(alloc);
     for number in 0..header.header_count {

@@ -146,8 +146,12 @@ impl<D: Digester> Executor<D> {
     /// The next segment of the run; or the run's outcome, where none is left; or that there are more than 65,535. Each call
     /// after an outcome, and each after TooManySeals, answers the same.
     pub fn next(&mut self) -> Result<Next<D>, AllocError>
-        ensures stands { (image : PlainImage) (words : List ℕ) → CutsRun self.old image words → CutsRun self.new image words }
-        ensures gives { IfOk result (λ next. (image : PlainImage) (words : List ℕ) → CutsRun self.old image words → Gives D.digest_of self.old.limits (start image words) self.old.number self.new.number next) }
+        ensures stands { (image : PlainImage) (words : List ℕ) → CutsRun self.old image words →
+            CutsRun self.new image words }
+        ensures gives { IfOk result
+            (λ next. (image : PlainImage) (words : List ℕ) → CutsRun self.old image words →
+            Gives D.digest_of self.old.limits (start image
+            words) self.old.number self.new.number next) }
         ensures limits { self.new.limits ≡ self.old.limits }
         ensures refused { OnErr result (self.new.number ≡ self.old.number) }
     {
@@ -172,10 +176,17 @@ impl<D: Digester> Executor<D> {
     // Does the next step, where it belongs to the segment that is under way and the run goes on after it; else the segment
     // is whole.
     fn advance(&mut self) -> Result<bool, AllocError>
-        ensures stands { (image : PlainImage) (words : List ℕ) → CutsRun self.old image words → CutsRun self.new image words }
+        ensures stands { (image : PlainImage) (words : List ℕ) → CutsRun self.old image words →
+            CutsRun self.new image words }
         ensures same { (self.new.limits ≡ self.old.limits) × (self.new.number ≡ self.old.number) }
-        ensures went { IfOk result (λ went. IsTrue went → (self.old.going.cycles < self.new.going.cycles) × (self.new.going.cycles ≤ self.new.limits.limit)) }
-        ensures whole { IfOk result (λ went. IsFalse went → (image : PlainImage) (words : List ℕ) → (stands : CutsRun self.new image words) → IsWhole (start image words) self.new stands.segment) }
+        ensures went { IfOk result
+            (λ went. IsTrue went →
+            (self.old.going.cycles < self.new.going.cycles) × (self.new.going.cycles ≤
+            self.new.limits.limit)) }
+        ensures whole { IfOk result
+            (λ went. IsFalse went → (image : PlainImage) (words : List ℕ) →
+            (stands : CutsRun self.new image words) → IsWhole (start image
+            words) self.new stands.segment) }
     {
         if self.outcome.is_some() {
             return Ok(false);
@@ -212,7 +223,8 @@ impl<D: Digester> Executor<D> {
     // Holds the beginning of the segment, if it isn't held yet: then no step of it was done.
     fn begin(&mut self) -> Result<(), AllocError>
         requires { self.old.outcome ≡ None }
-        ensures stands { (image : PlainImage) (words : List ℕ) → CutsRun self.old image words → CutsRun self.new image words }
+        ensures stands { (image : PlainImage) (words : List ℕ) → CutsRun self.old image words →
+            CutsRun self.new image words }
         ensures same { SameButBeginning self.old self.new }
         ensures begun { OnOk result (IsTrue (is_some self.new.beginning)) }
     {
@@ -231,9 +243,14 @@ impl<D: Digester> Executor<D> {
     // The cut of the segment that is under way, which is whole and has a step.
     fn cut(&self) -> Result<Arc<Cut<D>, Global>, AllocError>
         requires some { 1 ≤ self.now.steps }
-        requires whole { (image : PlainImage) (words : List ℕ) → (stands : CutsRun self.now image words) → IsWhole (start image words) self.now stands.segment }
+        requires whole { (image : PlainImage) (words : List ℕ) →
+            (stands : CutsRun self.now image words) → IsWhole (start image
+            words) self.now stands.segment }
         ensures number { IfOk result (λ cut. (arc_value cut).number ≡ self.now.number) }
-        ensures seal { IfOk result (λ cut. (image : PlainImage) (words : List ℕ) → CutsRun self.now image words → item (cut_seals D.digest_of self.now.limits (start image words)) self.now.number ≡ Some (arc_value cut).seal) }
+        ensures seal { IfOk result
+            (λ cut. (image : PlainImage) (words : List ℕ) → CutsRun self.now image words →
+            item (cut_seals D.digest_of self.now.limits
+            (start image words)) self.now.number ≡ Some (arc_value cut).seal) }
     {
         let Some(beginning) = &self.beginning else {
             unreachable!();

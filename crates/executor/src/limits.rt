@@ -38,8 +38,10 @@ impl Model for Limits {
 impl Limits {
     /// These limits; None exactly where one is outside its range.
     pub fn new(cycles: u32, pages: u32, limit: u64) -> Option<Limits>
-        ensures some { IfSome result (λ limits. limits ≡ record { cycles = cycles; pages = pages; limit = limit }) }
-        ensures none { IfNone result (AreLimits (record { cycles = cycles; pages = pages; limit = limit }) → ⊥) }
+        ensures some { IfSome result
+            (λ limits. limits ≡ record { cycles = cycles; pages = pages; limit = limit }) }
+        ensures none { IfNone result
+            (AreLimits (record { cycles = cycles; pages = pages; limit = limit }) → ⊥) }
     {
         if cycles < CYCLES_MIN || cycles > CYCLES_MAX || pages < PAGES_MIN || pages > PAGES_MAX {
             return None;

@@ -107,8 +107,11 @@ impl Flat {
     /// outcome it answers the same for the same limit, and goes on from OverLimit for a greater one.
     pub fn run(&mut self, limit: u64) -> Result<Outcome, AllocError>
         requires { self.old.cycles ≤ limit }
-        ensures stands { (image : PlainImage) (words : List ℕ) → IsRunOf self.old image words → IsRunOf self.new image words }
-        ensures outcome { IfOk result (λ outcome. (image : PlainImage) (words : List ℕ) → IsRunOf self.old image words → IsRunEnd self.new image words limit outcome) }
+        ensures stands { (image : PlainImage) (words : List ℕ) → IsRunOf self.old image words →
+            IsRunOf self.new image words }
+        ensures outcome { IfOk result
+            (λ outcome. (image : PlainImage) (words : List ℕ) → IsRunOf self.old image words →
+            IsRunEnd self.new image words limit outcome) }
         ensures within { self.new.cycles ≤ limit }
         ensures more { self.old.steps ≤ self.new.steps }
     {
@@ -123,7 +126,8 @@ impl Flat {
     /// Copies the image's pages to where a step finds them without a search. No state changes by it, with Ok or with a
     /// refusal.
     pub fn lift(&mut self) -> Result<(), AllocError>
-        ensures stands { (image : PlainImage) (words : List ℕ) → IsRunOf self.old image words → IsRunOf self.new image words }
+        ensures stands { (image : PlainImage) (words : List ℕ) → IsRunOf self.old image words →
+            IsRunOf self.new image words }
         ensures same { DoesNone self.old self.new }
     {
         self.memory.lift_pages()
@@ -146,11 +150,19 @@ impl Flat {
     /// the outcome: that of a step that halts, which is done, or that faults or costs too much, which isn't.
     pub fn step(&mut self, limit: u64) -> Result<Option<Outcome>, AllocError>
         requires { self.old.cycles ≤ limit }
-        ensures stands { (image : PlainImage) (words : List ℕ) → IsRunOf self.old image words → IsRunOf self.new image words }
+        ensures stands { (image : PlainImage) (words : List ℕ) → IsRunOf self.old image words →
+            IsRunOf self.new image words }
         ensures within { self.new.cycles ≤ limit }
-        ensures went { IfOk result (λ ended. IfNone ended ((self.old.halted ≡ None) × (self.new.halted ≡ None) × DoesOne self.old self.new)) }
-        ensures ended { IfOk result (λ ended. IfSome ended (λ outcome. (image : PlainImage) (words : List ℕ) → IsRunOf self.old image words → IsRunEnd self.new image words limit outcome)) }
-        ensures last { IfOk result (λ ended. IfSome ended (λ outcome. self.old.halted ≡ None → DoesLast self.old self.new outcome)) }
+        ensures went { IfOk result
+            (λ ended. IfNone ended
+            ((self.old.halted ≡ None) × (self.new.halted ≡ None) × DoesOne self.old self.new)) }
+        ensures ended { IfOk result
+            (λ ended. IfSome ended
+            (λ outcome. (image : PlainImage) (words : List ℕ) → IsRunOf self.old image words →
+            IsRunEnd self.new image words limit outcome)) }
+        ensures last { IfOk result
+            (λ ended. IfSome ended
+            (λ outcome. self.old.halted ≡ None → DoesLast self.old self.new outcome)) }
         ensures more { self.old.steps ≤ self.new.steps }
         ensures refused { OnErr result (DoesNone self.old self.new) }
     {
@@ -192,11 +204,15 @@ impl Flat {
     /// these steps.
     pub fn go(&mut self, steps: u64) -> Result<u64, AllocError>
         requires { self.old.steps + steps ≤ 2 ^ 48 }
-        ensures stands { (image : PlainImage) (words : List ℕ) → IsRunOf self.old image words → IsRunOf self.new image words }
+        ensures stands { (image : PlainImage) (words : List ℕ) → IsRunOf self.old image words →
+            IsRunOf self.new image words }
         ensures done { IfOk result (λ done. self.new.steps ≡ self.old.steps + done) }
         ensures more { self.old.steps ≤ self.new.steps }
         ensures bound { self.new.steps ≤ self.old.steps + steps }
-        ensures most { IfOk result (λ done. done < steps → (image : PlainImage) (words : List ℕ) → IsRunOf self.old image words → after (start image words) (went_steps self.new + 1) ≡ None) }
+        ensures most { IfOk result
+            (λ done. done < steps → (image : PlainImage) (words : List ℕ) →
+            IsRunOf self.old image words → after (start image words) (went_steps self.new
+            + 1) ≡ None) }
         ensures halted { self.new.halted ≡ self.old.halted }
     {
         self.memory.lift_pages()?;
@@ -211,10 +227,12 @@ impl Flat {
     // Does the next step, if it goes, and tells whether it did.
     fn go_on(&mut self) -> Result<bool, AllocError>
         requires { self.old.steps < 2 ^ 48 }
-        ensures stands { (image : PlainImage) (words : List ℕ) → IsRunOf self.old image words → IsRunOf self.new image words }
+        ensures stands { (image : PlainImage) (words : List ℕ) → IsRunOf self.old image words →
+            IsRunOf self.new image words }
         ensures went { IfOk result (λ went. IsTrue went → self.new.steps ≡ self.old.steps + 1) }
         ensures stays { IfOk result (λ went. IsFalse went → (self.new.steps ≡ self.old.steps)
-            × ((image : PlainImage) (words : List ℕ) → IsRunOf self.old image words → after (start image words) (went_steps self.new + 1) ≡ None)) }
+            × ((image : PlainImage) (words : List ℕ) → IsRunOf self.old image words →
+            after (start image words) (went_steps self.new + 1) ≡ None)) }
         ensures refused { OnErr result (self.new.steps ≡ self.old.steps) }
         ensures halted { self.new.halted ≡ self.old.halted }
     {

@@ -47,7 +47,8 @@ fn put_words(out: &mut Out, words: &[u32]) -> Result<(), AllocError>
 // Writes the words of the lines.
 fn put_lines(out: &mut Out, lines: &[GuestLine]) -> Result<(), AllocError>
     requires { AreValid lines.now }
-    ensures { OnOk result ((words : List ℕ) × AreLines lines.now words × (out.new ≡ out.old ++ flat_map word words)) }
+    ensures { OnOk result
+        ((words : List ℕ) × AreLines lines.now words × (out.new ≡ out.old ++ flat_map word words)) }
 {
     for line in lines {
         out.put_u32(line.word())?;

@@ -78,7 +78,8 @@ pub fn lift<D: Digester>(alloc: Global, seal: Arc<Seal, Global>) -> Result<Joine
     requires aligned { (arc_value seal).pc % 4 ≡ 0 }
     requires shape { IsPart HEIGHT (arc_value seal).tree }
     ensures seals { IfOk result (λ lifted. lifted.seals ≡ arc_value seal ∷ []) }
-    ensures claim { IfOk result (λ lifted. claim_of D.digest_of (arc_value seal) ≡ Some lifted.claim) }
+    ensures claim { IfOk result
+        (λ lifted. claim_of D.digest_of (arc_value seal) ≡ Some lifted.claim) }
     ensures stop { IfErr result (λ stop. (stop ≡ Memory) ⊎ (stop_of (arc_value seal) ≡ Some stop)) }
 {
     let claim = replay::<D>(alloc, &seal)?;

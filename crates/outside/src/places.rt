@@ -31,7 +31,8 @@ pub(crate) fn held<'a>(files: &'a [Slot], name: &[u8]) -> Option<&'a [u8]>
 // Makes a name hold the bytes, where its file has room for them.
 pub(crate) fn store(files: &mut [Slot], name: &[u8], bytes: &[u8]) -> bool
     ensures room { IsTrue result ↔ HasRoom files.old name.now (length bytes.now) }
-    ensures stored { OnTrue result (files_of files.new ≡ files_with name.now bytes.now (files_of files.old)) }
+    ensures stored { OnTrue result
+        (files_of files.new ≡ files_with name.now bytes.now (files_of files.old)) }
     ensures files { OnTrue result (files.new ≡ with_bytes name.now bytes.now files.old) }
     ensures kept { OnFalse result (files.new ≡ files.old) }
 {

@@ -43,7 +43,8 @@ impl Page {
     /// Puts bytes at a place in the page, where they end within it. It takes no memory.
     pub fn put(&mut self, at: usize, bytes: &[u8])
         requires { at + length bytes.now ≤ 1024 }
-        ensures value { self.new ≡ take at self.old ++ (bytes.now ++ drop (at + length bytes.now) self.old) }
+        ensures value { self.new
+            ≡ take at self.old ++ (bytes.now ++ drop (at + length bytes.now) self.old) }
         ensures was_page { IsPage self.old }
         ensures page { IsPage self.new }
     {

@@ -53,7 +53,8 @@ impl PageMap {
 
     /// The first stored page from a number on, with its number; None exactly where no such page is stored.
     pub fn next_from(&self, least: u32) -> Option<(u32, &Page)>
-        ensures found { option_map (λ found. (found.0, found.1.now)) result ≡ first_from least self.now }
+        ensures found { option_map (λ found. (found.0, found.1.now)) result
+            ≡ first_from least self.now }
         ensures stored { IsStoredFrom 0 self.now }
     {
         match self.pages.range(least..).next() {
@@ -118,7 +119,8 @@ impl PageMap {
     /// an AllocError is want of memory, and then nothing is changed.
     pub fn set_byte(&mut self, address: u32, value: u8) -> Result<(), AllocError>
         requires { address < 268435456 }
-        ensures written { OnOk result ((a : ℕ) → memory_of self.new a ≡ put (memory_of self.old) address (value ∷ []) a) }
+        ensures written { OnOk result
+            ((a : ℕ) → memory_of self.new a ≡ put (memory_of self.old) address (value ∷ []) a) }
         ensures stored { OnOk result (StoresAlso (address / 1024) self.old self.new) }
         ensures absent { OnErr result (stored_at self.old (address / 1024) ≡ None) }
         ensures kept { OnErr result (self.new ≡ self.old) }
@@ -131,7 +133,9 @@ impl PageMap {
     pub fn set_half(&mut self, address: u32, value: u16) -> Result<(), AllocError>
         requires below { address < 268435456 }
         requires aligned { address % 2 ≡ 0 }
-        ensures written { OnOk result ((a : ℕ) → memory_of self.new a ≡ put (memory_of self.old) address (to_le_bytes w16 value) a) }
+        ensures written { OnOk result
+            ((a : ℕ) → memory_of self.new a
+            ≡ put (memory_of self.old) address (to_le_bytes w16 value) a) }
         ensures stored { OnOk result (StoresAlso (address / 1024) self.old self.new) }
         ensures absent { OnErr result (stored_at self.old (address / 1024) ≡ None) }
         ensures kept { OnErr result (self.new ≡ self.old) }
@@ -144,7 +148,9 @@ impl PageMap {
     pub fn set_word(&mut self, address: u32, value: u32) -> Result<(), AllocError>
         requires below { address < 268435456 }
         requires aligned { address % 4 ≡ 0 }
-        ensures written { OnOk result ((a : ℕ) → memory_of self.new a ≡ put (memory_of self.old) address (to_le_bytes w32 value) a) }
+        ensures written { OnOk result
+            ((a : ℕ) → memory_of self.new a
+            ≡ put (memory_of self.old) address (to_le_bytes w32 value) a) }
         ensures stored { OnOk result (StoresAlso (address / 1024) self.old self.new) }
         ensures absent { OnErr result (stored_at self.old (address / 1024) ≡ None) }
         ensures kept { OnErr result (self.new ≡ self.old) }
@@ -156,11 +162,19 @@ impl PageMap {
     /// no memory; an AllocError is want of memory, and then each byte is as before or as it was to be.
     pub fn set_bytes(&mut self, address: u32, bytes: &[u8]) -> Result<(), AllocError>
         requires { address + length bytes.now ≤ 268435456 }
-        ensures written { OnOk result ((a : ℕ) → memory_of self.new a ≡ put (memory_of self.old) address bytes.now a) }
-        ensures stored { OnOk result ((n : ℕ) → is_some (stored_at self.new n) ≡ (is_among (pages_of address (length bytes.now)) n || is_some (stored_at self.old n))) }
-        ensures torn { OnErr result ((a : ℕ) → (memory_of self.new a ≡ memory_of self.old a) ⊎ (memory_of self.new a ≡ put (memory_of self.old) address bytes.now a)) }
-        ensures stored_some { OnErr result (StoresSome (pages_of address (length bytes.now)) self.old self.new) }
-        ensures absent { OnErr result (IsAbsentAmong (pages_of address (length bytes.now)) self.old) }
+        ensures written { OnOk result
+            ((a : ℕ) → memory_of self.new a ≡ put (memory_of self.old) address bytes.now a) }
+        ensures stored { OnOk result
+            ((n : ℕ) → is_some (stored_at self.new n)
+            ≡ (is_among (pages_of address (length bytes.now)) n || is_some
+            (stored_at self.old n))) }
+        ensures torn { OnErr result
+            ((a : ℕ) → (memory_of self.new a ≡ memory_of self.old a)
+            ⊎ (memory_of self.new a ≡ put (memory_of self.old) address bytes.now a)) }
+        ensures stored_some { OnErr result
+            (StoresSome (pages_of address (length bytes.now)) self.old self.new) }
+        ensures absent { OnErr result
+            (IsAbsentAmong (pages_of address (length bytes.now)) self.old) }
     {
         let mut at = address;
         let mut rest = bytes;
@@ -178,7 +192,8 @@ impl PageMap {
     fn put_bytes(&mut self, address: u32, bytes: &[u8]) -> Result<(), AllocError>
         requires below { address < 268435456 }
         requires fits { address % 1024 + length bytes.now ≤ 1024 }
-        ensures written { OnOk result ((a : ℕ) → memory_of self.new a ≡ put (memory_of self.old) address bytes.now a) }
+        ensures written { OnOk result
+            ((a : ℕ) → memory_of self.new a ≡ put (memory_of self.old) address bytes.now a) }
         ensures stored { OnOk result (StoresAlso (address / 1024) self.old self.new) }
         ensures absent { OnErr result (stored_at self.old (address / 1024) ≡ None) }
         ensures kept { OnErr result (self.new ≡ self.old) }
@@ -190,7 +205,9 @@ impl PageMap {
     fn overwrite(&mut self, page: u32, at: usize, bytes: &[u8]) -> Result<(), AllocError>
         requires below { page < PAGES }
         requires fits { at + length bytes.now ≤ 1024 }
-        ensures put { let old = stored_pages self.old page in OnOk result (stored_at self.new page ≡ Some (take at old ++ (bytes.now ++ drop (at + length bytes.now) old))) }
+        ensures put { let old = stored_pages self.old page in
+            OnOk result (stored_at self.new page
+            ≡ Some (take at old ++ (bytes.now ++ drop (at + length bytes.now) old))) }
         ensures length { length (stored_pages self.old page) ≡ 1024 }
         ensures others { (n : ℕ) → n ≢ page → stored_at self.new n ≡ stored_at self.old n }
         ensures absent { OnErr result (stored_at self.old page ≡ None) }

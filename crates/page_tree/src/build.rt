@@ -22,7 +22,8 @@ pub(crate) fn grow<D: Digester>(
     requires fits { index < 2 ^ (HEIGHT - height) }
     ensures grown { IfOk result (λ n. IsGrown D.digest_of height (grown_of n)) }
     ensures full { IfOk result (λ n. IsFull (grown_of n)) }
-    ensures stored { IfOk result (λ n. stored_in index (grown_of n) ≡ stored_below height index map.now) }
+    ensures stored { IfOk result
+        (λ n. stored_in index (grown_of n) ≡ stored_below height index map.now) }
     ensures numbers { IsStoredFrom 0 map.now }
 {
     let Some(page) = first_below(map, height, index) else {
@@ -50,7 +51,8 @@ fn first_below(map: &PageMap, height: u32, index: u32) -> Option<&Page>
     requires fits { index < 2 ^ (HEIGHT - height) }
     ensures some { IfSome result (λ page. 1 ≤ length (stored_below height index map.now)) }
     ensures none { IfNone result (stored_below height index map.now ≡ []) }
-    ensures page { IfSome result (λ page. height ≡ 0 → stored_below height index map.now ≡ (index, page.now) ∷ []) }
+    ensures page { IfSome result
+        (λ page. height ≡ 0 → stored_below height index map.now ≡ (index, page.now) ∷ []) }
     ensures stored { IsStoredFrom 0 map.now }
 {
     match map.next_from(index << height) {

@@ -60,7 +60,8 @@ impl Node {
         requires low { height ≤ HEIGHT }
         requires grown { IsGrown D.digest_of height (grown_of self.now) }
         requires below { IsBelow height index number }
-        ensures { option_map (λ page. page.now) result ≡ stored_at (stored_in index (grown_of self.now)) number }
+        ensures { option_map (λ page. page.now) result
+            ≡ stored_at (stored_in index (grown_of self.now)) number }
     {
         match self {
             Node::Bare => None,
@@ -87,7 +88,8 @@ impl Node {
         requires low { at ≤ HEIGHT }
         requires above { height ≤ at }
         requires grown { IsGrown D.digest_of at (grown_of self.now) }
-        ensures { (m : Pages) → Holds at (index / 2 ^ (at - height)) (grown_of self.now) m → result ≡ node D.digest_of m height index }
+        ensures { (m : Pages) → Holds at (index / 2 ^ (at - height)) (grown_of self.now) m →
+            result ≡ node D.digest_of m height index }
     {
         match self {
             Node::Bare => zeros.at(height),

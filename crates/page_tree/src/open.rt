@@ -28,7 +28,9 @@ pub(crate) fn open_below<D: Digester>(
     requires grown { IsGrown D.digest_of height (grown_of at.now) }
     requires below { All (IsBelow height index) pages.now }
     requires ascending { AscendFrom 0 pages.now }
-    ensures { IfOk result (λ tree. (m : Pages) → Holds height index (grown_of at.now) m → part tree ≡ part_of D.digest_of m pages.now height index) }
+    ensures { IfOk result
+        (λ tree. (m : Pages) → Holds height index (grown_of at.now) m →
+        part tree ≡ part_of D.digest_of m pages.now height index) }
 {
     if pages.is_empty() {
         return Ok(PartTree::Pruned(at.digest(height, zeros)));
@@ -57,7 +59,9 @@ fn open_bare<D: Digester>(
     requires fits { index < 2 ^ (HEIGHT - height) }
     requires below { All (IsBelow height index) pages.now }
     requires ascending { AscendFrom 0 pages.now }
-    ensures { IfOk result (λ tree. (m : Pages) → Holds height index bare m → part tree ≡ part_of D.digest_of m pages.now height index) }
+    ensures { IfOk result
+        (λ tree. (m : Pages) → Holds height index bare m →
+        part tree ≡ part_of D.digest_of m pages.now height index) }
 {
     if pages.is_empty() {
         return Ok(PartTree::Pruned(zeros.at(height)));

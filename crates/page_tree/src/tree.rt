@@ -97,7 +97,8 @@ impl<D: Digester> PageTree<D> {
         requires some { 1 ≤ length pages.now }
         requires few { length pages.now ≤ MOST_PAGES }
         requires ascending { AscendFrom 0 pages.now }
-        ensures tree { IfOk result (λ tree. part tree ≡ part_of D.digest_of (stored_pages self.now) pages.now HEIGHT 0) }
+        ensures tree { IfOk result
+            (λ tree. part tree ≡ part_of D.digest_of (stored_pages self.now) pages.now HEIGHT 0) }
         ensures canonical { IfOk result (λ tree. IsCanonical (part tree)) }
     {
         open_below(self.alloc, &self.zeros, &self.top, HEIGHT, 0, pages)

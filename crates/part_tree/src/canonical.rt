@@ -29,7 +29,8 @@ impl PartTree {
         ensures shape { IfSome result (λ pages. IsPart height (part self.now)) }
         ensures branches { IfSome result (λ pages. BranchesOpen (part self.now)) }
         ensures count { IfSome result (λ pages. pages ≡ page_count (part self.now)) }
-        ensures none { IfNone result (IsPart height (part self.now) → BranchesOpen (part self.now) → ⊥) }
+        ensures none { IfNone result
+            (IsPart height (part self.now) → BranchesOpen (part self.now) → ⊥) }
     {
         match self {
             PartTree::Pruned(digest) => {

@@ -77,7 +77,8 @@ impl PartTree {
     pub fn write(&mut self, number: u32, content: &Page)
         requires shape { IsPart HEIGHT (part self.old) }
         requires open { IsSome (page_at 0 (part self.old) number) }
-        ensures { part self.new ≡ put_part 0 (part self.old) (with_page (fill (part self.old)) number content.now) }
+        ensures { part self.new
+            ≡ put_part 0 (part self.old) (with_page (fill (part self.old)) number content.now) }
     {
         self.write_below(HEIGHT, 0, number, content);
     }
@@ -87,7 +88,8 @@ impl PartTree {
         requires shape { IsPart height (part self.old) }
         requires low { height ≤ HEIGHT }
         requires below { IsBelow height index number }
-        ensures { (m : Pages) → HasPages height index (part self.old) m → part self.new ≡ put_part index (part self.old) (with_page m number content.now) }
+        ensures { (m : Pages) → HasPages height index (part self.old) m →
+            part self.new ≡ put_part index (part self.old) (with_page m number content.now) }
     {
         match self {
             PartTree::Pruned(_) => {}
@@ -118,7 +120,8 @@ impl PartTree {
         requires shape { IsPart height (part self.now) }
         requires low { height ≤ HEIGHT }
         requires fits { index < 2 ^ (HEIGHT - height) }
-        ensures { OnOk result (pages.new.items ≡ pages.old.items ++ open_numbers index (part self.now)) }
+        ensures { OnOk result
+            (pages.new.items ≡ pages.old.items ++ open_numbers index (part self.now)) }
     {
         match self {
             PartTree::Pruned(_) => Ok(()),

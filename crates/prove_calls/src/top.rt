@@ -35,11 +35,13 @@ pub fn prove_top<D: Digester, K: Desk, O: Sink, G: Gate, R: Threads + Wait + Syn
     ensures done { result ≡ Status.Done → IsDoneProve D.digest_of (map string_bytes words.now)
         (K.contents desk.old) (K.contents desk.new) (O.taken out.old) (O.taken out.new) }
     // Where nothing stands against it, the status is 0, or there was a fault or want of memory.
-    ensures complete { CompletesProve D.digest_of (map string_bytes words.now) (K.contents desk.old) →
+    ensures complete { CompletesProve D.digest_of (map string_bytes words.now)
+        (K.contents desk.old) →
         IsDoneOrFails result }
 
     // The status, the lines and the file are those of an answer, but for a fault and want of memory.
-    ensures answer { Ends (ProveTable D.digest_of (map string_bytes words.now) (K.contents desk.old))
+    ensures answer { Ends
+        (ProveTable D.digest_of (map string_bytes words.now) (K.contents desk.old))
         result (K.contents desk.old) (K.contents desk.new) (O.taken out.old) (O.taken out.new) }
     ensures read_fault { result ≡ Status.ReadFault → NamesSomeProve (map string_bytes words.now)
         × Rose (K.read_faults desk.old) (K.read_faults desk.new) }

@@ -23,8 +23,10 @@ use std::sync::Arc;
 /// don't and spell no bundle, unless memory is wanting. Memory is asked for as the bytes come.
 pub fn read_bundle(alloc: Global, bytes: &[u8]) -> Result<Bundle, ReadStop>
     ensures spells { IfOk result (λ bundle. Spells bundle bytes.now) }
-    ensures malformed { result ≡ Err ReadStop.Malformed → (B : plain.Bundle) → Spells B bytes.now → ⊥ }
-    ensures not_version { result ≡ Err ReadStop.Malformed → (v : ℕ) → BeginsVersion v bytes.now → ⊥ }
+    ensures malformed { result ≡ Err ReadStop.Malformed → (B : plain.Bundle) →
+        Spells B bytes.now → ⊥ }
+    ensures not_version { result ≡ Err ReadStop.Malformed → (v : ℕ) →
+        BeginsVersion v bytes.now → ⊥ }
     ensures version { (v : ℕ) → result ≡ Err (ReadStop.Version v) → BeginsVersion v bytes.now }
 {
     let mut cursor = Cursor::new(bytes);
@@ -63,7 +65,8 @@ fn read_entry(
 ) -> Result<Entry, ReadStop>
     ensures limits { IfOk result (λ entry. EntryLimits number count entry) }
     ensures spelled { IfOk result (λ entry. cursor.old ≡ entry_bytes entry ++ cursor.new) }
-    ensures malformed { result ≡ Err ReadStop.Malformed → NoneSpelled entry_bytes (EntryLimits number count) cursor.old }
+    ensures malformed { result ≡ Err ReadStop.Malformed →
+        NoneSpelled entry_bytes (EntryLimits number count) cursor.old }
     ensures no_version { (v : ℕ) → result ≢ Err (ReadStop.Version v) }
 {
     let link_count = cursor.take_u32().ok_or(ReadStop::Malformed)?;
@@ -85,8 +88,10 @@ fn read_links(
     count: u16,
 ) -> Result<LinkList, ReadStop>
     ensures links { IfOk result (λ links. AreLinks number count many links.items) }
-    ensures spelled { IfOk result (λ links. cursor.old ≡ flat_map (to_le_bytes w16) links.items ++ cursor.new) }
-    ensures malformed { result ≡ Err ReadStop.Malformed → NoneSpelled (flat_map (to_le_bytes w16)) (AreLinks number count many) cursor.old }
+    ensures spelled { IfOk result
+        (λ links. cursor.old ≡ flat_map (to_le_bytes w16) links.items ++ cursor.new) }
+    ensures malformed { result ≡ Err ReadStop.Malformed →
+        NoneSpelled (flat_map (to_le_bytes w16)) (AreLinks number count many) cursor.old }
     ensures no_version { (v : ℕ) → result ≢ Err (ReadStop.Version v) }
 {
     let mut links = LinkList::new(alloc);
@@ -102,9 +107,13 @@ fn read_links(
 
 // Reads this many seals. After an error the cursor stands anywhere.
 fn read_seals(alloc: Global, cursor: &mut Cursor, many: u32) -> Result<SealList, ReadStop>
-    ensures seals { IfOk result (λ seals. AreSealed many (map (λ seal. arc_value seal) seals.items)) }
-    ensures spelled { IfOk result (λ seals. cursor.old ≡ flat_map seal_bytes (map (λ seal. arc_value seal) seals.items) ++ cursor.new) }
-    ensures malformed { result ≡ Err ReadStop.Malformed → NoneSpelled (flat_map seal_bytes) (AreSealed many) cursor.old }
+    ensures seals { IfOk result
+        (λ seals. AreSealed many (map (λ seal. arc_value seal) seals.items)) }
+    ensures spelled { IfOk result
+        (λ seals. cursor.old
+        ≡ flat_map seal_bytes (map (λ seal. arc_value seal) seals.items) ++ cursor.new) }
+    ensures malformed { result ≡ Err ReadStop.Malformed →
+        NoneSpelled (flat_map seal_bytes) (AreSealed many) cursor.old }
     ensures no_version { (v : ℕ) → result ≢ Err (ReadStop.Version v) }
 {
     let mut seals = SealList::new(alloc);

@@ -40,7 +40,8 @@ impl Fields {
 pub fn read_seal(alloc: Global, cursor: &mut Cursor) -> Result<Seal, ReadStop>
     ensures limits { IfOk result (λ seal. SealLimits seal) }
     ensures spelled { IfOk result (λ seal. cursor.old ≡ seal_bytes seal ++ cursor.new) }
-    ensures malformed { result ≡ Err ReadStop.Malformed → NoneSpelled seal_bytes SealLimits cursor.old }
+    ensures malformed { result ≡ Err ReadStop.Malformed →
+        NoneSpelled seal_bytes SealLimits cursor.old }
     ensures no_version { (v : ℕ) → result ≢ Err (ReadStop.Version v) }
     ensures kept { OnErr result (cursor.new ≡ cursor.old) }
 {
@@ -80,8 +81,10 @@ fn read_fields(cursor: &mut Cursor) -> Option<Fields>
 // Reads this many words. After an error the cursor stands anywhere.
 fn read_words(alloc: Global, cursor: &mut Cursor, count: u32) -> Result<WordList, ReadStop>
     ensures words { IfOk result (λ words. AreWords count words.items) }
-    ensures spelled { IfOk result (λ words. cursor.old ≡ flat_map (to_le_bytes w32) words.items ++ cursor.new) }
-    ensures malformed { result ≡ Err ReadStop.Malformed → NoneSpelled (flat_map (to_le_bytes w32)) (AreWords count) cursor.old }
+    ensures spelled { IfOk result
+        (λ words. cursor.old ≡ flat_map (to_le_bytes w32) words.items ++ cursor.new) }
+    ensures malformed { result ≡ Err ReadStop.Malformed →
+        NoneSpelled (flat_map (to_le_bytes w32)) (AreWords count) cursor.old }
     ensures no_version { (v : ℕ) → result ≢ Err (ReadStop.Version v) }
 {
     let mut words = WordList::new(alloc);

@@ -24,7 +24,8 @@ use std::alloc::{AllocError, Global};
 pub fn read_tree(alloc: Global, cursor: &mut Cursor) -> Result<PartTree, ReadStop>
     ensures tree { IfOk result (λ tree. IsCanonical (part tree)) }
     ensures spelled { IfOk result (λ tree. cursor.old ≡ tree_bytes (part tree) ++ cursor.new) }
-    ensures malformed { result ≡ Err ReadStop.Malformed → NoneSpelled tree_bytes IsCanonical cursor.old }
+    ensures malformed { result ≡ Err ReadStop.Malformed →
+        NoneSpelled tree_bytes IsCanonical cursor.old }
     ensures no_version { (v : ℕ) → result ≢ Err (ReadStop.Version v) }
     ensures kept { OnErr result (cursor.new ≡ cursor.old) }
 {
@@ -54,7 +55,8 @@ pub(crate) fn bytes_left<'a>(cursor: &mut Cursor<'a>) -> &'a [u8]
 fn read_node(alloc: Global, cursor: &mut Cursor, height: u32) -> Result<PartTree, ReadStop>
     ensures shape { IfOk result (λ tree. IsPart height (part tree)) }
     ensures spelled { IfOk result (λ tree. cursor.old ≡ tree_bytes (part tree) ++ cursor.new) }
-    ensures malformed { result ≡ Err ReadStop.Malformed → NoneSpelled tree_bytes (IsPart height) cursor.old }
+    ensures malformed { result ≡ Err ReadStop.Malformed →
+        NoneSpelled tree_bytes (IsPart height) cursor.old }
     ensures no_version { (v : ℕ) → result ≢ Err (ReadStop.Version v) }
 {
     match cursor.take_u8() {

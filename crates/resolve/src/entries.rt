@@ -18,7 +18,8 @@ pub(crate) fn first_entry<D: Digester>(
     numbers: &[usize],
 ) -> Result<Entry, AllocError>
     requires { All (λ number. number < 65536) numbers.now }
-    ensures { IfOk result (λ entry. entry ≡ record { links = numbers.now; seals = joined.now.seals }) }
+    ensures { IfOk result
+        (λ entry. entry ≡ record { links = numbers.now; seals = joined.now.seals }) }
 {
     let mut links = LinkList::new(alloc);
     for number in numbers {
@@ -32,7 +33,9 @@ pub(crate) fn first_entry<D: Digester>(
 
 // The same seals, held once more.
 fn copied(alloc: Global, seals: &SealList) -> Result<SealList, AllocError>
-    ensures { IfOk result (λ copies. map (λ seal. arc_value seal) copies.items ≡ map (λ seal. arc_value seal) seals.now.items) }
+    ensures { IfOk result
+        (λ copies. map (λ seal. arc_value seal) copies.items
+        ≡ map (λ seal. arc_value seal) seals.now.items) }
 {
     let mut copies = SealList::new(alloc);
     for seal in seals.as_slice() {
@@ -49,7 +52,9 @@ pub(crate) fn add_bundle(
 ) -> Result<(), AllocError>
     requires few { length entries.old.items + length bundle.now ≤ MOST_ENTRIES }
     requires limits { KeepsLimits bundle.now }
-    ensures { OnOk result (entries.new.items ≡ entries.old.items ++ map (plain.raised_entry (length entries.old.items)) bundle.now) }
+    ensures { OnOk result
+        (entries.new.items
+        ≡ entries.old.items ++ map (plain.raised_entry (length entries.old.items)) bundle.now) }
 {
     let first = entries.len() as u16;
     for entry in bundle.entries.as_slice() {

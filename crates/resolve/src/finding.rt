@@ -18,7 +18,9 @@ pub(crate) fn claims_of<D: Digester>(
     alloc: Global,
     others: &[Checked<D>],
 ) -> Result<ItemList<Digest>, AllocError>
-    ensures { IfOk result (λ claims. claims.items ≡ digests_of D.digest_of (placed_entries 1 (bundles_of others.now))) }
+    ensures { IfOk result
+        (λ claims. claims.items
+        ≡ digests_of D.digest_of (placed_entries 1 (bundles_of others.now))) }
 {
     let mut claims = ItemList::new(alloc);
     for other in others {
@@ -29,7 +31,8 @@ pub(crate) fn claims_of<D: Digester>(
 
 // Appends the claim digests of reports.
 fn add_claims(claims: &mut ItemList<Digest>, reports: &[EntryClaim]) -> Result<(), AllocError>
-    ensures { OnOk result (claims.new.items ≡ claims.old.items ++ map (λ report. report.claim) reports.now) }
+    ensures { OnOk result
+        (claims.new.items ≡ claims.old.items ++ map (λ report. report.claim) reports.now) }
 {
     for report in reports {
         claims.push(report.claim)?;
@@ -44,9 +47,13 @@ pub(crate) fn find_links<D: Digester>(
     calls: &[AssumeCall],
     claims: &[Digest],
 ) -> Result<ItemList<usize>, ResolveStop>
-    ensures links { IfOk result (λ links. (entries : List plain.Entry) → claims.now ≡ digests_of D.digest_of entries → links_for D.digest_of entries calls.now ≡ Some links.items) }
+    ensures links { IfOk result
+        (λ links. (entries : List plain.Entry) → claims.now ≡ digests_of D.digest_of entries →
+        links_for D.digest_of entries calls.now ≡ Some links.items) }
     ensures low { IfOk result (λ links. All (λ link. link ≤ length claims.now) links.items) }
-    ensures stop { IfErr result (λ stop. (entries : List plain.Entry) → claims.now ≡ digests_of D.digest_of entries → Misses D.digest_of entries calls.now stop) }
+    ensures stop { IfErr result
+        (λ stop. (entries : List plain.Entry) → claims.now ≡ digests_of D.digest_of entries →
+        Misses D.digest_of entries calls.now stop) }
 {
     let mut links = ItemList::new(alloc);
     for call in calls {

@@ -48,7 +48,9 @@ fn add_reports(
 ) -> Result<(), AllocError>
     requires few { length entries.old.items ≤ MOST_ENTRIES }
     requires links { All (λ report. All (λ link. link < MOST_ENTRIES) report.links) reports.now }
-    ensures { OnOk result (entries.new.items ≡ entries.old.items ++ map (plain.raised_report (length entries.old.items)) reports.now) }
+    ensures { OnOk result
+        (entries.new.items
+        ≡ entries.old.items ++ map (plain.raised_report (length entries.old.items)) reports.now) }
 {
     let first = entries.len() as u16;
     for report in reports {

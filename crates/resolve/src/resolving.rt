@@ -27,11 +27,16 @@ pub fn resolve<D: Digester>(
     others: &[Checked<D>],
 ) -> Result<Bundle, ResolveStop>
     requires halted { (code : ℕ) × (joined.now.claim.exit ≡ HaltedWith code) }
-    ensures bundle { IfOk result (λ bundle. IsResolved D.digest_of joined.now (bundles_of others.now) bundle) }
-    ensures accepted { IfOk result (λ bundle. Accepts D.digest_of bundle (state_digest D.digest_of joined.now.claim.before)) }
+    ensures bundle { IfOk result
+        (λ bundle. IsResolved D.digest_of joined.now (bundles_of others.now) bundle) }
+    ensures accepted { IfOk result
+        (λ bundle. Accepts D.digest_of bundle (state_digest D.digest_of joined.now.claim.before)) }
     // It keeps the limits of a receipt, where what is proved does, as the others do.
-    ensures limits { IfOk result (λ bundle. AllSealLimits joined.now.seals → 0 < length joined.now.seals → length joined.now.seals ≤ MOST_SEALS → length joined.now.claim.calls ≤ MOST_LINKS → KeepsLimits bundle) }
-    ensures stop { IfErr result (λ stop. StopsResolve D.digest_of joined.now.claim.calls (bundles_of others.now) stop) }
+    ensures limits { IfOk result
+        (λ bundle. AllSealLimits joined.now.seals → 0 < length joined.now.seals →
+        length joined.now.seals ≤ MOST_SEALS → length joined.now.claim.calls ≤ MOST_LINKS → KeepsLimits bundle) }
+    ensures stop { IfErr result
+        (λ stop. StopsResolve D.digest_of joined.now.claim.calls (bundles_of others.now) stop) }
 {
     let claims = claims_of(alloc, others)?;
     let links = find_links::<D>(alloc, joined.claim().calls.as_slice(), claims.as_slice())?;

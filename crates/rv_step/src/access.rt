@@ -71,7 +71,8 @@ pub(crate) fn store_words<B: Bus>(bus: &mut B, address: u32, words: &[u32])
     requires opened { Opens (B.opens bus.old) address (4 * length words.now) }
     requires room { Opens (B.readies bus.old) address (4 * length words.now) }
     ensures same_pages { B.opens bus.new ≡ B.opens bus.old }
-    ensures written { B.byte_at bus.new ≡ put (B.byte_at bus.old) address (flat_map (to_le_bytes w32) words.now) }
+    ensures written { B.byte_at bus.new
+        ≡ put (B.byte_at bus.old) address (flat_map (to_le_bytes w32) words.now) }
 {
     let mut at = address;
     for word in words {

@@ -44,5 +44,6 @@ pub trait Bus {
         requires room { IsTrue (readies self.old (address / 1024)) }
         ensures same_pages { opens self.new ≡ opens self.old }
         ensures same_room { readies self.new ≡ readies self.old }
-        ensures written { byte_at self.new ≡ put (byte_at self.old) address (to_le_bytes w32 value) };
+        ensures written { byte_at self.new
+            ≡ put (byte_at self.old) address (to_le_bytes w32 value) };
 }

@@ -28,7 +28,8 @@ use std::alloc::AllocError;
 fn go_on(core: &mut Core, rd: u8, value: u32)
     requires register { rd < 32 }
     requires place { core.old.pc < top }
-    ensures { core.new ≡ record { pc = core.old.pc + 4; regs = with_register core.old.regs rd value } }
+    ensures { core.new
+        ≡ record { pc = core.old.pc + 4; regs = with_register core.old.regs rd value } }
 {
     core.pc += 4;
     core.regs.set(rd, value);
@@ -51,7 +52,9 @@ fn sign_extended(value: u32, half: u32) -> u32
 fn load_value<B: Bus>(op: LoadOp, address: u32, bus: &B) -> u32
     requires aligned { address % byte_len (load_width op) ≡ 0 }
     requires opened { IsTrue (B.opens bus.now (address / 1024)) }
-    ensures { result ≡ loaded_word op (from_le_bytes (load_width op) (bytes (B.byte_at bus.now) address (byte_len (load_width op)))) }
+    ensures { result
+        ≡ loaded_word op (from_le_bytes (load_width op)
+        (bytes (B.byte_at bus.now) address (byte_len (load_width op)))) }
 {
     match op {
         LoadOp::Lb => sign_extended(u32::from(load_byte(bus, address)), 1 << 7),
@@ -68,7 +71,8 @@ fn store_value<B: Bus>(op: StoreOp, address: u32, value: u32, bus: &mut B)
     requires opened { IsTrue (B.opens bus.old (address / 1024)) }
     requires room { IsTrue (B.readies bus.old (address / 1024)) }
     ensures same_pages { B.opens bus.new ≡ B.opens bus.old }
-    ensures written { B.byte_at bus.new ≡ put (B.byte_at bus.old) address (to_le_bytes (store_width op) value) }
+    ensures written { B.byte_at bus.new
+        ≡ put (B.byte_at bus.old) address (to_le_bytes (store_width op) value) }
 {
     match op {
         StoreOp::Sb => store_byte(bus, address, (value % 256) as u8),
@@ -84,7 +88,9 @@ pub(crate) fn load<B: Bus>(op: LoadOp, rd: u8, address: u32, core: &mut Core, bu
     requires aligned { address % byte_len (load_width op) ≡ 0 }
     requires opened { IsTrue (B.opens bus.now (address / 1024)) }
     ensures place { core.new.pc ≡ core.old.pc + 4 }
-    ensures went { (tape : Tape) (log : Log) → act_event (Loads op rd address) (state_at core.old (B.byte_at bus.now) tape log) ≡ Went (state_at core.new (B.byte_at bus.now) tape log) }
+    ensures went { (tape : Tape) (log : Log) →
+        act_event (Loads op rd address) (state_at core.old (B.byte_at bus.now) tape
+        log) ≡ Went (state_at core.new (B.byte_at bus.now) tape log) }
 {
     let value = load_value(op, address, bus);
     go_on(core, rd, value);
@@ -103,8 +109,12 @@ pub(crate) fn store<B: Bus>(
     requires opened { IsTrue (B.opens bus.old (address / 1024)) }
     ensures same_pages { B.opens bus.new ≡ B.opens bus.old }
     ensures place { OnOk result (core.new.pc ≡ core.old.pc + 4) }
-    ensures went { OnOk result ((tape : Tape) (log : Log) → act_event (Stores op address value) (state_at core.old (B.byte_at bus.old) tape log) ≡ Went (state_at core.new (B.byte_at bus.new) tape log)) }
-    ensures refused { OnErr result ((core.new ≡ core.old) × (B.byte_at bus.new ≡ B.byte_at bus.old)) }
+    ensures went { OnOk result
+        ((tape : Tape) (log : Log) →
+        act_event (Stores op address value) (state_at core.old (B.byte_at bus.old) tape
+        log) ≡ Went (state_at core.new (B.byte_at bus.new) tape log)) }
+    ensures refused { OnErr result
+        ((core.new ≡ core.old) × (B.byte_at bus.new ≡ B.byte_at bus.old)) }
 {
     bus.make_ready(address / 1024)?;
     store_value(op, address, value, bus);
@@ -129,8 +139,12 @@ fn read<B: Bus>(
     ensures same_pages { B.opens bus.new ≡ B.opens bus.old }
     ensures same_words { tape.new.words ≡ tape.old.words }
     ensures place { OnOk result (core.new.pc ≡ core.old.pc + 4) }
-    ensures went { OnOk result ((log : Log) → call_event (Read pointer count) (state_at core.old (B.byte_at bus.old) tape.old log) ≡ Went (state_at core.new (B.byte_at bus.new) tape.new log)) }
-    ensures refused { OnErr result ((core.new ≡ core.old) × (B.byte_at bus.new ≡ B.byte_at bus.old) × (tape.new ≡ tape.old)) }
+    ensures went { OnOk result
+        ((log : Log) → call_event (Read pointer count)
+        (state_at core.old (B.byte_at bus.old) tape.old log) ≡ Went (state_at core.new
+        (B.byte_at bus.new) tape.new log)) }
+    ensures refused { OnErr result
+        ((core.new ≡ core.old) × (B.byte_at bus.new ≡ B.byte_at bus.old) × (tape.new ≡ tape.old)) }
 {
     if count == 0 {
         go_on(core, 10, 0);
@@ -156,7 +170,10 @@ fn commit<B: Bus>(
     requires below { IsTrue (fits_below pointer count) }
     requires opened { Opens (B.opens bus.now) pointer count }
     ensures place { OnOk result (core.new.pc ≡ core.old.pc + 4) }
-    ensures went { OnOk result ((tape : Tape) → call_event (Commit pointer count) (state_at core.old (B.byte_at bus.now) tape log.old) ≡ Went (state_at core.new (B.byte_at bus.now) tape log.new)) }
+    ensures went { OnOk result
+        ((tape : Tape) →
+        call_event (Commit pointer count) (state_at core.old (B.byte_at bus.now) tape
+        log.old) ≡ Went (state_at core.new (B.byte_at bus.now) tape log.new)) }
     ensures refused { OnErr result ((core.new ≡ core.old) × (log.new ≡ log.old)) }
 {
     if count == 0 {
@@ -185,7 +202,10 @@ fn assume<B: Bus>(
     requires image_open { Opens (B.opens bus.now) image 32 }
     requires journal_open { Opens (B.opens bus.now) journal 32 }
     ensures place { OnOk result (core.new.pc ≡ core.old.pc + 4) }
-    ensures went { OnOk result ((tape : Tape) → call_event (Assume image journal) (state_at core.old (B.byte_at bus.now) tape log.old) ≡ Went (state_at core.new (B.byte_at bus.now) tape log.new)) }
+    ensures went { OnOk result
+        ((tape : Tape) →
+        call_event (Assume image journal) (state_at core.old (B.byte_at bus.now) tape
+        log.old) ≡ Went (state_at core.new (B.byte_at bus.now) tape log.new)) }
     ensures refused { OnErr result ((core.new ≡ core.old) × (log.new ≡ log.old)) }
 {
     let call = AssumeCall {
@@ -214,8 +234,13 @@ pub(crate) fn perform<B: Bus>(
     ensures place { (core.new ≡ core.old) ⊎ (core.new.pc ≡ core.old.pc + 4) }
     ensures same_pages { B.opens bus.new ≡ B.opens bus.old }
     ensures same_words { tape.new.words ≡ tape.old.words }
-    ensures answer { AnswersEvent (call_event call (state_at core.old (B.byte_at bus.old) tape.old log.old)) (state_at core.old (B.byte_at bus.old) tape.old log.old) (state_at core.new (B.byte_at bus.new) tape.new log.new) result }
-    ensures refused { OnErr result ((core.new ≡ core.old) × (B.byte_at bus.new ≡ B.byte_at bus.old) × (tape.new ≡ tape.old) × (log.new ≡ log.old)) }
+    ensures answer { AnswersEvent
+        (call_event call (state_at core.old (B.byte_at bus.old) tape.old log.old)) (state_at
+        core.old (B.byte_at bus.old) tape.old log.old) (state_at core.new (B.byte_at
+        bus.new) tape.new log.new) result }
+    ensures refused { OnErr result
+        ((core.new ≡ core.old) × (B.byte_at bus.new ≡ B.byte_at bus.old) × (tape.new ≡ tape.old)
+        × (log.new ≡ log.old)) }
 {
     match call {
         Call::Halt { code } => return Ok(Event::Halted(code)),

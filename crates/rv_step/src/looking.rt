@@ -32,7 +32,9 @@ pub struct Looked {
 // The act of the next step, or the first page of its fetch that isn't open.
 pub(crate) fn fetch<B: Bus>(core: &Core, bus: &B, tape: &WordTape) -> Result<Act, u32>
     requires { core.now.pc % 4 ≡ 0 }
-    ensures answer { (log : Log) → result ≡ fetched_act (B.opens bus.now) (state_at core.now (B.byte_at bus.now) tape.now log) }
+    ensures answer { (log : Log) →
+        result ≡ fetched_act (B.opens bus.now) (state_at core.now (B.byte_at bus.now)
+        tape.now log) }
     ensures register { IfOk result (λ act. HasTarget act) }
     ensures sound { IfOk result (λ act. IsSound core.now.regs act) }
 {
@@ -139,7 +141,8 @@ fn fault_of(act: &Act) -> Option<Fault>
 /// page where the pc is in range.
 pub fn look<B: Bus>(core: &Core, bus: &B, tape: &WordTape) -> Result<Looked, u32>
     requires { core.now.pc % 4 ≡ 0 }
-    ensures { (log : Log) → result ≡ looked_of (B.opens bus.now) (state_at core.now (B.byte_at bus.now) tape.now log) }
+    ensures { (log : Log) →
+        result ≡ looked_of (B.opens bus.now) (state_at core.now (B.byte_at bus.now) tape.now log) }
 {
     let act = fetch(core, bus, tape)?;
     Ok(Looked {

@@ -35,7 +35,9 @@ impl RunLog {
 
     // Appends bytes to the journal, or nothing.
     pub(crate) fn commit(&mut self, bytes: &[u8]) -> Result<(), AllocError>
-        ensures ok { OnOk result (self.new ≡ record { journal = self.old.journal ++ bytes.now; calls = self.old.calls }) }
+        ensures ok { OnOk result
+            (self.new ≡ record
+            { journal = self.old.journal ++ bytes.now; calls = self.old.calls }) }
         ensures err { OnErr result (self.new ≡ self.old) }
     {
         self.journal.extend(bytes)
@@ -43,7 +45,9 @@ impl RunLog {
 
     // Appends an assumption, or nothing.
     pub(crate) fn assume(&mut self, call: AssumeCall) -> Result<(), AllocError>
-        ensures ok { OnOk result (self.new ≡ record { journal = self.old.journal; calls = self.old.calls ++ call ∷ [] }) }
+        ensures ok { OnOk result
+            (self.new ≡ record
+            { journal = self.old.journal; calls = self.old.calls ++ call ∷ [] }) }
         ensures err { OnErr result (self.new ≡ self.old) }
     {
         self.calls.push(call)

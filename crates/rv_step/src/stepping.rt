@@ -64,8 +64,12 @@ fn first_missing<B: Bus>(bus: &B, pages: &[u32]) -> Option<u32>
 // The act of the next step, or the first page of its footprint that isn't open.
 fn next_act<B: Bus>(core: &Core, bus: &B, tape: &WordTape) -> Result<Act, u32>
     requires { core.now.pc % 4 ≡ 0 }
-    ensures missed { (log : Log) → IfErr result (λ page. first_closed (B.opens bus.now) (foot_of (state_at core.now (B.byte_at bus.now) tape.now log)) ≡ Some page) }
-    ensures next { (log : Log) → IfOk result (λ act. IsNext (B.opens bus.now) (state_at core.now (B.byte_at bus.now) tape.now log) act) }
+    ensures missed { (log : Log) →
+        IfErr result (λ page. first_closed (B.opens bus.now)
+        (foot_of (state_at core.now (B.byte_at bus.now) tape.now log)) ≡ Some page) }
+    ensures next { (log : Log) →
+        IfOk result (λ act. IsNext (B.opens bus.now)
+        (state_at core.now (B.byte_at bus.now) tape.now log) act) }
     ensures register { IfOk result (λ act. HasTarget act) }
 {
     let act = fetch(core, bus, tape)?;
@@ -85,13 +89,18 @@ fn perform_act<B: Bus>(
     log: &mut RunLog,
 ) -> Result<Event, StepStop>
     requires aligned { core.old.pc % 4 ≡ 0 }
-    requires next { IsNext (B.opens bus.old) (state_at core.old (B.byte_at bus.old) tape.old log.old) act }
+    requires next { IsNext (B.opens bus.old)
+        (state_at core.old (B.byte_at bus.old) tape.old log.old) act }
     requires register { HasTarget act }
     ensures aligned { core.new.pc % 4 ≡ 0 }
     ensures same_pages { B.opens bus.new ≡ B.opens bus.old }
     ensures same_words { tape.new.words ≡ tape.old.words }
-    ensures answer { IsStepOf (B.opens bus.old) (state_at core.old (B.byte_at bus.old) tape.old log.old) (state_at core.new (B.byte_at bus.new) tape.new log.new) result }
-    ensures refused { OnErr result ((core.new ≡ core.old) × (B.byte_at bus.new ≡ B.byte_at bus.old) × (tape.new ≡ tape.old) × (log.new ≡ log.old)) }
+    ensures answer { IsStepOf (B.opens bus.old)
+        (state_at core.old (B.byte_at bus.old) tape.old log.old) (state_at core.new
+        (B.byte_at bus.new) tape.new log.new) result }
+    ensures refused { OnErr result
+        ((core.new ≡ core.old) × (B.byte_at bus.new ≡ B.byte_at bus.old) × (tape.new ≡ tape.old)
+        × (log.new ≡ log.old)) }
 {
     match act {
         Act::Sets { pc, rd, value } => {
@@ -127,8 +136,12 @@ pub fn step<B: Bus>(
     ensures aligned { core.new.pc % 4 ≡ 0 }
     ensures same_pages { B.opens bus.new ≡ B.opens bus.old }
     ensures same_words { tape.new.words ≡ tape.old.words }
-    ensures answer { IsStepOf (B.opens bus.old) (state_at core.old (B.byte_at bus.old) tape.old log.old) (state_at core.new (B.byte_at bus.new) tape.new log.new) result }
-    ensures refused { OnErr result ((core.new ≡ core.old) × (B.byte_at bus.new ≡ B.byte_at bus.old) × (tape.new ≡ tape.old) × (log.new ≡ log.old)) }
+    ensures answer { IsStepOf (B.opens bus.old)
+        (state_at core.old (B.byte_at bus.old) tape.old log.old) (state_at core.new
+        (B.byte_at bus.new) tape.new log.new) result }
+    ensures refused { OnErr result
+        ((core.new ≡ core.old) × (B.byte_at bus.new ≡ B.byte_at bus.old) × (tape.new ≡ tape.old)
+        × (log.new ≡ log.old)) }
 {
     let act = match next_act(core, bus, tape) {
         Ok(act) => act,
@@ -150,8 +163,12 @@ pub fn step_within<B: Bus>(
     ensures aligned { core.new.pc % 4 ≡ 0 }
     ensures same_pages { B.opens bus.new ≡ B.opens bus.old }
     ensures same_words { tape.new.words ≡ tape.old.words }
-    ensures answer { IsPaidStepOf (B.opens bus.old) room (state_at core.old (B.byte_at bus.old) tape.old log.old) (state_at core.new (B.byte_at bus.new) tape.new log.new) result }
-    ensures refused { OnErr result ((core.new ≡ core.old) × (B.byte_at bus.new ≡ B.byte_at bus.old) × (tape.new ≡ tape.old) × (log.new ≡ log.old)) }
+    ensures answer { IsPaidStepOf (B.opens bus.old) room
+        (state_at core.old (B.byte_at bus.old) tape.old log.old) (state_at core.new
+        (B.byte_at bus.new) tape.new log.new) result }
+    ensures refused { OnErr result
+        ((core.new ≡ core.old) × (B.byte_at bus.new ≡ B.byte_at bus.old) × (tape.new ≡ tape.old)
+        × (log.new ≡ log.old)) }
 {
     let act = match next_act(core, bus, tape) {
         Ok(act) => act,

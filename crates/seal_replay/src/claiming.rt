@@ -62,8 +62,11 @@ pub fn replay<D: Digester>(alloc: Global, seal: &Seal) -> Result<SpanClaim, Repl
 // The root of a tree with these pages in its open pages, once the registers are written into them.
 fn root_after<D: Digester>(tree: &PartTree, regs: &Regs, mut pages: OpenPages) -> Digest
     requires shape { IsPart HEIGHT (part tree.now) }
-    requires open { (n : ℕ) → is_some (page_in pages n) ≡ is_among (open_numbers 0 (part tree.now)) n }
-    ensures { result ≡ root_of D.digest_of (put_part 0 (part tree.now) (page_of (full_of (flat (pages_in pages)) regs.now))) }
+    requires open { (n : ℕ) →
+        is_some (page_in pages n) ≡ is_among (open_numbers 0 (part tree.now)) n }
+    ensures { result
+        ≡ root_of D.digest_of (put_part 0 (part tree.now)
+        (page_of (full_of (flat (pages_in pages)) regs.now))) }
 {
     write_registers(&mut pages, regs);
     node_after::<D>(tree, &pages, HEIGHT, 0)
@@ -72,7 +75,9 @@ fn root_after<D: Digester>(tree: &PartTree, regs: &Regs, mut pages: OpenPages) -
 // Writes x1 to x31 into the register page, where it is open.
 fn write_registers(pages: &mut OpenPages, regs: &Regs)
     ensures open { (n : ℕ) → is_some (page_in pages.new n) ≡ is_some (page_in pages.old n) }
-    ensures bytes { (n : ℕ) → IsTrue (is_some (page_in pages.old n)) → page_of (flat (pages_in pages.new)) n ≡ page_of (full_of (flat (pages_in pages.old)) regs.now) n }
+    ensures bytes { (n : ℕ) → IsTrue (is_some (page_in pages.old n)) →
+        page_of (flat (pages_in pages.new)) n ≡ page_of (full_of (flat (pages_in pages.old))
+        regs.now) n }
 {
     write_words(pages, *regs);
 }
@@ -80,7 +85,9 @@ fn write_registers(pages: &mut OpenPages, regs: &Regs)
 // The same by value: then it is known that there are 32 registers.
 fn write_words(pages: &mut OpenPages, regs: Regs)
     ensures open { (n : ℕ) → is_some (page_in pages.new n) ≡ is_some (page_in pages.old n) }
-    ensures bytes { (n : ℕ) → IsTrue (is_some (page_in pages.old n)) → page_of (flat (pages_in pages.new)) n ≡ page_of (full_of (flat (pages_in pages.old)) regs) n }
+    ensures bytes { (n : ℕ) → IsTrue (is_some (page_in pages.old n)) →
+        page_of (flat (pages_in pages.new)) n ≡ page_of (full_of
+        (flat (pages_in pages.old)) regs) n }
 {
     if !pages.is_open(REGISTER_PAGE) {
         return;
@@ -95,7 +102,9 @@ fn node_after<D: Digester>(tree: &PartTree, pages: &OpenPages, height: u32, inde
     requires shape { IsPart height (part tree.now) }
     requires low { height ≤ HEIGHT }
     requires fits { index < 2 ^ (HEIGHT - height) }
-    ensures { result ≡ root_of D.digest_of (put_part index (part tree.now) (page_of (flat (pages_in pages.now)))) }
+    ensures { result
+        ≡ root_of D.digest_of (put_part index (part tree.now)
+        (page_of (flat (pages_in pages.now)))) }
 {
     match tree {
         PartTree::Pruned(digest) => *digest,

@@ -21,7 +21,8 @@ pub(crate) fn open_pages(
 ) -> Result<OpenPages, AllocError>
     requires shape { IsPart HEIGHT (part tree.now) }
     requires numbers { numbers.now ≡ open_numbers 0 (part tree.now) }
-    ensures { IfOk result (λ pages. (number : ℕ) → page_in pages number ≡ page_at 0 (part tree.now) number) }
+    ensures { IfOk result
+        (λ pages. (number : ℕ) → page_in pages number ≡ page_at 0 (part tree.now) number) }
 {
     let mut pages = OpenPages::new(alloc);
     for number in numbers {

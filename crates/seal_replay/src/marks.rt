@@ -29,7 +29,9 @@ fn mark(marks: &mut [bool], page: u32)
 // Sets the marks of these pages.
 pub(crate) fn mark_all(marks: &mut [bool], pages: &[u32])
     ensures size { length marks.new ≡ length marks.old }
-    ensures marks { (p : ℕ) → p < length marks.old → slice_index_or marks.new p false ≡ (slice_index_or marks.old p false || is_among pages.now p) }
+    ensures marks { (p : ℕ) → p < length marks.old →
+        slice_index_or marks.new p false ≡ (slice_index_or marks.old p false || is_among
+        pages.now p) }
 {
     for page in pages {
         mark(marks, *page);

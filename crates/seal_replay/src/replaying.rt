@@ -36,7 +36,11 @@ pub(crate) struct Replayed {
 fn mark_touched<B: Bus>(core: &Core, bus: &B, tape: &WordTape, marks: &mut [bool])
     requires { core.now.pc % 4 ≡ 0 }
     ensures size { length marks.new ≡ length marks.old }
-    ensures marks { (log : Log) → first_closed (B.opens bus.now) (foot_of (state_at core.now (B.byte_at bus.now) tape.now log)) ≡ None → AreAlsoMarked marks.old marks.new (foot_of (state_at core.now (B.byte_at bus.now) tape.now log)) }
+    ensures marks { (log : Log) →
+        first_closed (B.opens bus.now) (foot_of
+        (state_at core.now (B.byte_at bus.now) tape.now
+        log)) ≡ None → AreAlsoMarked marks.old marks.new (foot_of (state_at core.now (B.byte_at
+        bus.now) tape.now log)) }
 {
     let Ok(looked) = look(core, bus, tape) else {
         return;
@@ -59,10 +63,18 @@ fn replay_step<B: Bus>(
     ensures aligned { core.new.pc % 4 ≡ 0 }
     ensures same_pages { B.opens bus.new ≡ B.opens bus.old }
     ensures same_words { tape.new.words ≡ tape.old.words }
-    ensures event { IfOk result (λ event. IsEvent (B.opens bus.old) steps number (state_at core.old (B.byte_at bus.old) tape.old log.old) (state_at core.new (B.byte_at bus.new) tape.new log.new) event) }
-    ensures stop { IfErr result (λ stop. (stop ≡ Memory) ⊎ (stop_at (B.opens bus.old) steps number (state_at core.old (B.byte_at bus.old) tape.old log.old) ≡ Some stop)) }
+    ensures event { IfOk result
+        (λ event. IsEvent (B.opens bus.old) steps number
+        (state_at core.old (B.byte_at bus.old) tape.old log.old) (state_at core.new
+        (B.byte_at bus.new) tape.new log.new) event) }
+    ensures stop { IfErr result
+        (λ stop. (stop ≡ Memory)
+        ⊎ (stop_at (B.opens bus.old) steps number
+        (state_at core.old (B.byte_at bus.old) tape.old log.old) ≡ Some stop)) }
     ensures size { length marks.new ≡ length marks.old }
-    ensures marks { IfOk result (λ event. AreAlsoMarked marks.old marks.new (foot_of (state_at core.old (B.byte_at bus.old) tape.old log.old))) }
+    ensures marks { IfOk result
+        (λ event. AreAlsoMarked marks.old marks.new
+        (foot_of (state_at core.old (B.byte_at bus.old) tape.old log.old))) }
 {
     mark_touched(core, bus, tape, marks);
     match step(core, bus, tape, log) {
@@ -99,8 +111,11 @@ fn run<B: Bus>(
     requires size { (p : ℕ) → Contains (opened_by seal.now) p → p < length marks.old }
     requires unmarked { AreMarked (opened_by seal.now) marks.old [] }
     ensures same_pages { B.opens bus.new ≡ B.opens bus.old }
-    ensures ended { IfOk result (λ exit. HasEnded seal.now exit (state_at core.new (B.byte_at bus.new) tape.new log.new) marks.new) }
-    ensures stop { IfErr result (λ stop. (stop ≡ Memory) ⊎ (first_below (step_stop seal.now) seal.now.steps ≡ Some stop)) }
+    ensures ended { IfOk result
+        (λ exit. HasEnded seal.now exit
+        (state_at core.new (B.byte_at bus.new) tape.new log.new) marks.new) }
+    ensures stop { IfErr result
+        (λ stop. (stop ≡ Memory) ⊎ (first_below (step_stop seal.now) seal.now.steps ≡ Some stop)) }
 {
     for number in 0..seal.steps {
         match replay_step(number, seal.steps, core, bus, tape, log, marks)? {

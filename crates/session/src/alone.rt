@@ -24,8 +24,10 @@ pub fn prove_alone<D: Digester>(
     words: WordList,
     limits: Limits,
 ) -> Result<Joined<D>, SessionStop>
-    ensures proved { IfOk result (λ joined. IsProved D.digest_of limits (start (image_of image) words.items) joined) }
-    ensures stop { IfErr result (λ stop. StopsSession limits (start (image_of image) words.items) stop) }
+    ensures proved { IfOk result
+        (λ joined. IsProved D.digest_of limits (start (image_of image) words.items) joined) }
+    ensures stop { IfErr result
+        (λ stop. StopsSession limits (start (image_of image) words.items) stop) }
 {
     let mut executor = Executor::<D>::new(alloc, image, words, limits)?;
     let mut whole = None;

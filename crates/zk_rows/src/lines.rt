@@ -10,19 +10,19 @@ pub(crate) struct Lines {
 }
 
 impl Lines {
-    pub fn new(alloc: Global) -> Lines {
+    pub(crate) fn new(alloc: Global) -> Lines {
         Lines {
             text: String::new(alloc),
         }
     }
 
     /// Adds a line, or several that are divided by line ends.
-    pub fn add<T: Display + Drop>(&mut self, line: T) -> Result<(), RowStop> {
+    pub(crate) fn add<T: Display + Drop>(&mut self, line: T) -> Result<(), RowStop> {
         Ok(writeln!(self.text, "{line}")?)
     }
 
     /// All of them, each with its line end.
-    pub fn text(&self) -> &str {
+    pub(crate) fn text(&self) -> &str {
         self.text.as_str()
     }
 }

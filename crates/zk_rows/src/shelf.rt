@@ -19,19 +19,19 @@ pub(crate) struct Shelf {
 }
 
 impl Shelf {
-    pub fn new(alloc: Global) -> Shelf {
+    pub(crate) fn new(alloc: Global) -> Shelf {
         Shelf {
             files: BTreeMap::new(alloc),
         }
     }
 
     /// The file of this name.
-    pub fn file(&self, name: &str) -> Option<&Kept> {
+    pub(crate) fn file(&self, name: &str) -> Option<&Kept> {
         self.files.get(name)
     }
 
     /// The bytes of the file of this name.
-    pub fn bytes(&self, name: &str) -> Result<&[u8], RowStop> {
+    pub(crate) fn bytes(&self, name: &str) -> Result<&[u8], RowStop> {
         let Some(kept) = self.files.get(name) else {
             return Err(RowStop::NoRow);
         };
@@ -42,7 +42,7 @@ impl Shelf {
     }
 
     /// Keeps a file in the place of the one of its name.
-    pub fn put(&mut self, alloc: Global, name: &str, kept: Kept) -> Result<(), RowStop> {
+    pub(crate) fn put(&mut self, alloc: Global, name: &str, kept: Kept) -> Result<(), RowStop> {
         let _earlier = self.files.insert(String::from_str(alloc, name)?, kept)?;
         Ok(())
     }
