@@ -3,6 +3,7 @@
 //! name it; those over the system tell nothing of it.
 #![tactic(auto)]
 
+mod kept_file;
 mod mem_desk;
 mod mem_sink;
 mod places;

@@ -1,15 +1,16 @@
 //! Reading a whole file, piece by piece.
-ghost use Rattle.std.specs.Prelude.{◌≡◌, ℕ, ◌+◌, ◌≤◌, length, IfOk, IfSome};
+ghost use Rattle.std.specs.Prelude.{◌≡◌, ℕ, ◌+◌, ◌≤◌, length, vec_len, IfOk, IfSome};
 ghost use Rattle.outside.specs.Faults.{Rose};
 ghost use Rattle.outside.specs.ReadAll.{ReadAll};
 
 use crate::stop::ReadAllStop;
 use crate::traits::Desk;
 use byte_cursor::{ByteList, Out};
-use std::alloc::Global;
+use std::alloc::{AllocError, Global};
 
-// How many bytes one read asks for.
-const PIECE: usize = 4096;
+// How many bytes one read asks for. They stand on the heap: on the stack each call would pay for
+// them at its entry.
+const PIECE: usize = 65_536;
 
 /// Reads the whole of a file of at most `limit` bytes, in at most `limit` + 2 reads.
 ///
@@ -34,10 +35,13 @@ pub fn read_all<K: Desk>(
     ensures write_faults { K.write_faults desk.new ≡ K.write_faults desk.old }
 {
     let mut out = Out::new(alloc);
-    let mut buffer = [0u8; PIECE];
+    let Ok(mut room) = room_for(alloc, PIECE) else {
+        return Err(ReadAllStop::Memory);
+    };
+    let buffer = room.as_mut_slice();
     let mut at: u64 = 0;
     loop {
-        match desk.read_at(name, at, &mut buffer) {
+        match desk.read_at(name, at, buffer) {
             Err(_) => return Err(ReadAllStop::Fault),
             Ok(None) => return Err(ReadAllStop::NoFile),
             Ok(Some(0)) => return Ok(out.finish()),
@@ -53,4 +57,11 @@ pub fn read_all<K: Desk>(
             }
         }
     }
+}
+
+// Memory for the bytes of one read.
+fn room_for(alloc: Global, count: usize) -> Result<Vec<u8>, AllocError>
+    ensures { IfOk result (λ room. vec_len room ≡ count) }
+{
+    vec![in alloc; 0; count]
 }
