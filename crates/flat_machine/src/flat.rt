@@ -4,6 +4,8 @@ ghost use Rattle.page_core.specs.Stored.{memory_of};
 ghost use Rattle.elf_image.specs.Loaded.{image_of};
 ghost use Rattle.rv_step.specs.Machine.{full, full_of, foot_of, step_cost, step_of};
 ghost use Rattle.rv_step.specs.Stepping.{fault_in};
+ghost use Rattle.page_core.specs.declared.sizes.TheConstants.{PAGES};
+ghost use Rattle.rv_step.specs.Quick.{GoesQuickly};
 ghost use Rattle.rv_step.specs.Runs.{start, after};
 ghost use Rattle.flat_machine.specs.Going.{flat_state, went_steps, IsRunOf, DoesOne, DoesNone, DoesLast, IsRunEnd};
 
@@ -13,7 +15,10 @@ use elf_image::Image;
 use host_calls::CallList;
 use page_core::{PageMap, TOP};
 use rv_isa::Regs;
-use rv_step::{Core, Event, Looked, Outcome, RunLog, StepStop, WordTape, look, step_within};
+use rv_step::{
+    AllPages, Core, DecodeTable, Event, Looked, Outcome, PageSet, RunLog, StepStop, WordTape, look,
+    quick_steps, step_within,
+};
 use std::alloc::{AllocError, Global};
 use std::marker::Model;
 
@@ -30,6 +35,7 @@ pub struct Flat {
     memory: FlatMemory,
     tape: WordTape,
     log: RunLog,
+    table: DecodeTable,
     steps: u64,
     cycles: u64,
     halted: Option<u32>,
@@ -96,6 +102,7 @@ impl Flat {
             memory: FlatMemory::new(alloc, image.map),
             tape: WordTape::new(words),
             log: RunLog::new(alloc),
+            table: DecodeTable::new(alloc),
             steps: 0,
             cycles: 0,
             halted: None,
@@ -115,22 +122,55 @@ impl Flat {
         ensures within { self.new.cycles ≤ limit }
         ensures more { self.old.steps ≤ self.new.steps }
     {
-        self.memory.lift_pages()?;
+        self.lift()?;
         loop {
+            let room = limit - self.cycles;
+            self.go_quickly(&AllPages, room);
             if let Some(outcome) = self.step(limit)? {
                 return Ok(outcome);
             }
         }
     }
 
-    /// Copies the image's pages to where a step finds them without a search. No state changes by it, with Ok or with a
-    /// refusal.
+    /// Copies the image's pages to where a step finds them without a search, and makes room for decoded words. No state
+    /// changes by it, with Ok or with a refusal.
     pub fn lift(&mut self) -> Result<(), AllocError>
         ensures stands { (image : PlainImage) (words : List ℕ) → IsRunOf self.old image words →
             IsRunOf self.new image words }
         ensures same { DoesNone self.old self.new }
     {
-        self.memory.lift_pages()
+        self.memory.lift_pages()?;
+        self.table.fill()
+    }
+
+    /// Does the next steps in place, at most `room` of them, as long as each merely goes on, costs 1, takes no memory and
+    /// touches pages of the set alone, and tells how many it did. Fewer than `room` say nothing of the step that comes
+    /// next. After a halt it does none.
+    pub fn go_quickly<P: PageSet>(&mut self, pages: &P, room: u64) -> u64
+        requires pages { (page : ℕ) → IsTrue (P.holds pages.now page) → page < PAGES }
+        requires room { self.old.cycles + room < 2 ^ 64 }
+        ensures stands { (image : PlainImage) (words : List ℕ) → IsRunOf self.old image words →
+            IsRunOf self.new image words }
+        ensures bound { result ≤ room }
+        ensures went { GoesQuickly (P.holds pages.now) (flat_state self.old) result
+            (flat_state self.new) }
+        ensures steps { self.new.steps ≡ self.old.steps + result }
+        ensures cycles { self.new.cycles ≡ self.old.cycles + result }
+        ensures halted { self.new.halted ≡ self.old.halted }
+    {
+        if self.halted.is_some() {
+            return 0;
+        }
+        let done = quick_steps(
+            &mut self.core,
+            &mut self.memory,
+            pages,
+            &mut self.table,
+            room,
+        );
+        self.steps += done;
+        self.cycles += done;
+        done
     }
 
     /// What the next step touches and costs, and the fault that it ends with, if any, without doing it, as long as no step
@@ -215,13 +255,19 @@ impl Flat {
             + 1) ≡ None) }
         ensures halted { self.new.halted ≡ self.old.halted }
     {
-        self.memory.lift_pages()?;
-        for done in 0..steps {
-            if !self.go_on()? {
-                return Ok(done);
+        self.lift()?;
+        let mut left = steps;
+        loop {
+            let room = left.min(u64::MAX - self.cycles);
+            left -= self.go_quickly(&AllPages, room);
+            if left == 0 {
+                return Ok(steps);
             }
+            if !self.go_on()? {
+                return Ok(steps - left);
+            }
+            left -= 1;
         }
-        Ok(steps)
     }
 
     // Does the next step, if it goes, and tells whether it did.

@@ -105,6 +105,10 @@ impl Bus for FlatMemory {
         page < PAGES
     }
 
+    fn is_ready(&self, page: u32) -> bool {
+        self.above.page(page).is_some()
+    }
+
     fn load_word(&self, address: u32) -> u32 {
         let bytes = self.bytes_around(address);
         let at = (address % 1024) as usize;

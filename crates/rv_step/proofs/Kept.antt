@@ -1,5 +1,5 @@
 -- What a step leaves, by cases on its act.
-use Rattle.std.proofs.Common.{◌≡◌, ℕ, zero, suc, ◌+◌, ◌-◌, ◌*◌, ◌/◌, ◌%◌, ◌^◌, ◌<◌, ◌≤◌, List, [], ◌∷◌, ◌++◌, length, get_or, take, set, refl, ◌∙◌, subst, arith, inl, inr, ◌⊎◌, ⊎_elim, sym, length-take}
+use Rattle.std.proofs.Common.{◌≡◌, ℕ, zero, suc, ◌+◌, ◌*◌, ◌/◌, ◌%◌, ◌^◌, ◌<◌, ◌≤◌, List, [], ◌∷◌, ◌++◌, length, get_or, take, set, refl, ◌∙◌, subst, arith, inl, inr, ◌⊎◌, ⊎_elim, sym, length-take}
 use Rattle.rv_step.proofs.Feet.{data_within}
 use Rattle.std.specs.Int.{w32, byte_len, to_le_bytes}
 use Rattle.std.specs.List.{flat_map}

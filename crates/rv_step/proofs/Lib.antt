@@ -11,4 +11,6 @@ pub mod Done
 pub mod Opened
 pub mod Looks
 pub mod Steps
+pub mod QuickSteps
+pub mod Marks
 pub mod Public

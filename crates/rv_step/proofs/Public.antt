@@ -21,3 +21,5 @@ pub use Rattle.rv_step.proofs.Words
 pub use Rattle.rv_step.proofs.Looks
 -- the act that is next, and what doing it answers
 pub use Rattle.rv_step.proofs.Steps
+-- steps that merely go on, one after the other
+pub use Rattle.rv_step.proofs.QuickSteps

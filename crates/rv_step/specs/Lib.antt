@@ -6,3 +6,4 @@ pub mod Laws
 pub mod Acts
 pub mod Stepping
 pub mod Limits
+pub mod Quick

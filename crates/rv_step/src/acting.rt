@@ -14,7 +14,7 @@ use page_core::TOP;
 use rv_isa::{Fault, Instr, LoadOp, StoreOp, alu, decode, taken};
 
 // An address and an offset, modulo 2^32.
-fn moved(base: u32, offset: i32) -> u32
+pub(crate) fn moved(base: u32, offset: i32) -> u32
     ensures { result ≡ plus base offset }
 {
     base.wrapping_add(offset.cast_unsigned())

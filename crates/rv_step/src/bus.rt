@@ -20,6 +20,10 @@ pub trait Bus {
     fn is_open(&self, page: u32) -> bool
         ensures { result ≡ opens self.now page };
 
+    /// Whether a page is ready.
+    fn is_ready(&self, page: u32) -> bool
+        ensures { result ≡ readies self.now page };
+
     /// The word at an address of an open page.
     fn load_word(&self, address: u32) -> u32
         requires aligned { address % 4 ≡ 0 }

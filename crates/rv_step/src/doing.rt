@@ -25,7 +25,7 @@ use rv_isa::{LoadOp, StoreOp};
 use std::alloc::AllocError;
 
 // Goes on at the next word, with a value in a register.
-fn go_on(core: &mut Core, rd: u8, value: u32)
+pub(crate) fn go_on(core: &mut Core, rd: u8, value: u32)
     requires register { rd < 32 }
     requires place { core.old.pc < top }
     ensures { core.new
@@ -49,7 +49,7 @@ fn sign_extended(value: u32, half: u32) -> u32
 }
 
 // The word that a load reads.
-fn load_value<B: Bus>(op: LoadOp, address: u32, bus: &B) -> u32
+pub(crate) fn load_value<B: Bus>(op: LoadOp, address: u32, bus: &B) -> u32
     requires aligned { address % byte_len (load_width op) ≡ 0 }
     requires opened { IsTrue (B.opens bus.now (address / 1024)) }
     ensures { result
@@ -66,7 +66,7 @@ fn load_value<B: Bus>(op: LoadOp, address: u32, bus: &B) -> u32
 }
 
 // Writes what a store writes, in a page that is ready.
-fn store_value<B: Bus>(op: StoreOp, address: u32, value: u32, bus: &mut B)
+pub(crate) fn store_value<B: Bus>(op: StoreOp, address: u32, value: u32, bus: &mut B)
     requires aligned { address % byte_len (store_width op) ≡ 0 }
     requires opened { IsTrue (B.opens bus.old (address / 1024)) }
     requires room { IsTrue (B.readies bus.old (address / 1024)) }

@@ -81,6 +81,10 @@ impl Bus for OpenPages {
         self.page(page).is_some()
     }
 
+    fn is_ready(&self, page: u32) -> bool {
+        self.page(page).is_some()
+    }
+
     fn load_word(&self, address: u32) -> u32 {
         let Some(page) = self.page(address / 1024) else {
             unreachable!();

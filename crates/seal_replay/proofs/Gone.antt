@@ -27,7 +27,7 @@ use Rattle.seal_replay.proofs.Marked.{also_marked}
 use Rattle.seal_replay.proofs.Endings.{cond_none}
 
 -- ---- one step
-tested : (opens : ℕ → Bool) (steps k : ℕ) (s : State) (o : Option ℕ) (e : Event) → first_closed opens (foot_of s) ≡ o → step_of s ≡ e
+pub tested : (opens : ℕ → Bool) (steps k : ℕ) (s : State) (o : Option ℕ) (e : Event) → first_closed opens (foot_of s) ≡ o → step_of s ≡ e
     → stop_at opens steps k s ≡ option_or (page_stop k o) (event_stop steps k e)
 tested opens steps k s o e closed is = ap₂ (λ (p : Option ℕ) (f : Event). option_or (page_stop k p) (event_stop steps k f)) closed is
 

@@ -5,6 +5,7 @@ pub mod Marked
 pub mod Shown
 pub mod Entered
 pub mod Gone
+pub mod Quickly
 pub mod Ended
 pub mod Written
 pub mod Puts

@@ -4,7 +4,6 @@
 mod claiming;
 mod entering;
 mod laws;
-mod marks;
 mod replaying;
 mod stop;
 

@@ -1,22 +1,25 @@
-ghost use Rattle.std.specs.Prelude.{◌≡◌, ℕ, ◌+◌, ◌-◌, ◌<◌, ◌%◌, ◌==◌, ◌⊎◌, [], length, IfOk, IfErr, Contains, Some, None};
+ghost use Rattle.std.specs.Prelude.{◌≡◌, ℕ, ◌+◌, ◌-◌, ◌<◌, ◌≤◌, ◌%◌, ◌==◌, ◌⊎◌, length, IfOk, IfErr, IsTrue, Contains, Some, None, slice_index_or, false};
 ghost use Rattle.page_core.specs.Memory.{is_among};
 ghost use Rattle.part_tree.specs.declared.sizes.TheConstants.{HEIGHT};
 ghost use Rattle.part_tree.specs.Part.{IsPart};
 ghost use Rattle.rv_step.specs.Machine.{first_closed, foot_of, step_of};
-ghost use Rattle.rv_step.specs.Tapes.{Log};
+ghost use Rattle.rv_step.specs.Quick.{GoesQuickly};
+ghost use Rattle.rv_step.specs.Tapes.{Tape, Log};
 ghost use Rattle.rv_step.specs.Stepping.{state_at};
 ghost use Rattle.seal_replay.specs.declared.stop.ReplayStop.TheVariants.{Memory};
 ghost use Rattle.seal_replay.specs.Replay.{opened_by, seal_memory, enter, registers_in, stop_at, step_stop, first_below, stop_of};
-ghost use Rattle.seal_replay.specs.Replaying.{AreMarked, AreAlsoMarked, IsEvent, HasGone, HasEnded, IsReplayEnd};
+ghost use Rattle.seal_replay.specs.Replaying.{AreAlsoMarked, IsEvent, HasGone, HasEnded, IsReplayEnd};
 
 use crate::entering::{open_pages, registers};
-use crate::marks::{first_unmarked, mark_all, unmarked};
 use crate::stop::ReplayStop;
 use byte_cursor::WordList;
 use claim_types::Exit;
 use receipt_types::Seal;
 use rv_isa::Fault;
-use rv_step::{Bus, Core, Event, OpenPages, RunLog, StepStop, WordTape, look, step};
+use rv_step::{
+    Bus, Core, DecodeTable, Event, OpenPages, PageMarks, RunLog, StepStop, WordTape, look,
+    quick_steps, step,
+};
 use std::alloc::{AllocError, Global};
 
 // Where a replay ended that nothing stopped.
@@ -33,7 +36,7 @@ pub(crate) struct Replayed {
 }
 
 // Marks the pages that the next step touches, where they are open.
-fn mark_touched<B: Bus>(core: &Core, bus: &B, tape: &WordTape, marks: &mut [bool])
+fn mark_touched<B: Bus>(core: &Core, bus: &B, tape: &WordTape, marks: &mut PageMarks)
     requires { core.now.pc % 4 ≡ 0 }
     ensures size { length marks.new ≡ length marks.old }
     ensures marks { (log : Log) →
@@ -45,7 +48,7 @@ fn mark_touched<B: Bus>(core: &Core, bus: &B, tape: &WordTape, marks: &mut [bool
     let Ok(looked) = look(core, bus, tape) else {
         return;
     };
-    mark_all(marks, looked.foot.pages());
+    marks.mark(looked.foot.pages());
 }
 
 // One step of a replay over the pages that are open, whose touched pages are marked.
@@ -56,7 +59,7 @@ fn replay_step<B: Bus>(
     bus: &mut B,
     tape: &mut WordTape,
     log: &mut RunLog,
-    marks: &mut [bool],
+    marks: &mut PageMarks,
 ) -> Result<Event, ReplayStop>
     requires aligned { core.old.pc % 4 ≡ 0 }
     requires last { number < steps }
@@ -96,6 +99,28 @@ fn replay_step<B: Bus>(
     }
 }
 
+// Does the next steps in place, at most `room` of them, as long as each merely goes on in marked pages.
+fn replay_quickly<B: Bus>(
+    room: u32,
+    core: &mut Core,
+    bus: &mut B,
+    marks: &PageMarks,
+    table: &mut DecodeTable,
+) -> u32
+    requires aligned { core.old.pc % 4 ≡ 0 }
+    requires open { (p : ℕ) → IsTrue (slice_index_or marks.now p false) →
+        IsTrue (B.opens bus.old p) }
+    ensures bound { result ≤ room }
+    ensures went { (tape : Tape) (log : Log) →
+        GoesQuickly (λ p. slice_index_or marks.now p false)
+        (state_at core.old (B.byte_at bus.old) tape log) result (state_at core.new (B.byte_at
+        bus.new) tape log) }
+    ensures aligned { core.new.pc % 4 ≡ 0 }
+    ensures same_pages { B.opens bus.new ≡ B.opens bus.old }
+{
+    quick_steps(core, bus, marks, table, u64::from(room)) as u32
+}
+
 // Does a seal's steps, and tells how they end.
 fn run<B: Bus>(
     seal: &Seal,
@@ -103,13 +128,14 @@ fn run<B: Bus>(
     bus: &mut B,
     tape: &mut WordTape,
     log: &mut RunLog,
-    marks: &mut [bool],
+    marks: &mut PageMarks,
+    table: &mut DecodeTable,
 ) -> Result<Exit, ReplayStop>
     requires aligned { core.old.pc % 4 ≡ 0 }
     requires opens { B.opens bus.old ≡ is_among (opened_by seal.now) }
     requires enters { enter seal.now ≡ state_at core.old (B.byte_at bus.old) tape.old log.old }
     requires size { (p : ℕ) → Contains (opened_by seal.now) p → p < length marks.old }
-    requires unmarked { AreMarked (opened_by seal.now) marks.old [] }
+    requires unmarked { (p : ℕ) → slice_index_or marks.old p false ≡ false }
     ensures same_pages { B.opens bus.new ≡ B.opens bus.old }
     ensures ended { IfOk result
         (λ exit. HasEnded seal.now exit
@@ -117,9 +143,14 @@ fn run<B: Bus>(
     ensures stop { IfErr result
         (λ stop. (stop ≡ Memory) ⊎ (first_below (step_stop seal.now) seal.now.steps ≡ Some stop)) }
 {
-    for number in 0..seal.steps {
+    let mut number = 0;
+    while number < seal.steps {
+        number += replay_quickly(seal.steps - number, core, bus, marks, table);
+        if number == seal.steps {
+            break;
+        }
         match replay_step(number, seal.steps, core, bus, tape, log, marks)? {
-            Event::Went => {}
+            Event::Went => number += 1,
             Event::Halted(code) => return Ok(Exit::Halted(code)),
         }
     }
@@ -150,14 +181,17 @@ pub(crate) fn replay_to_end(alloc: Global, seal: &Seal) -> Result<Replayed, Repl
     };
     let mut tape = tape_of(alloc, &seal.words)?;
     let mut log = RunLog::new(alloc);
-    let mut unset = unmarked(alloc)?;
-    let marks = unset.as_mut_slice();
-    let exit = run(seal, &mut core, &mut pages, &mut tape, &mut log, marks)?;
+    let mut marks = PageMarks::new(alloc)?;
+    let mut table = DecodeTable::new(alloc);
+    table.fill()?;
+    let exit = run(
+        seal, &mut core, &mut pages, &mut tape, &mut log, &mut marks, &mut table,
+    )?;
     let left = tape.rest().len();
     if left != 0 {
         return Err(ReplayStop::WordsLeft { count: left as u64 });
     }
-    if let Some(page) = first_unmarked(marks, numbers.as_slice()) {
+    if let Some(page) = marks.first_unmarked(numbers.as_slice()) {
         return Err(ReplayStop::Idle { page });
     }
     Ok(Replayed {

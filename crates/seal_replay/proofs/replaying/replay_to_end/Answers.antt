@@ -11,7 +11,7 @@ use Rattle.rv_step.specs.Stepping.{state_at}
 use Rattle.rv_step.specs.Tapes.{Tape, no_log}
 use Rattle.seal_replay.specs.Replay.{opened_by, seal_memory, registers_in}
 use Rattle.seal_replay.proofs.Shown.{opens_same, memory_same, open_number}
-use Rattle.seal_replay.proofs.Marked.{none_marked}
+use Rattle.page_core.proofs.Zeros.{get_or-same}
 use Rattle.seal_replay.proofs.Ended.{step_stopped, words_left, idle_left, nothing_left}
 use Rattle.seal_replay.proofs.replaying.replay_to_end.Goals as goal
 
@@ -38,12 +38,11 @@ run-requires-clause-enters c =
 pub run-requires-clause-size : goal.run-requires-clause-size
 run-requires-clause-size c = λ p h.
     let bound : p < 262144 = open_number c.args.seal.now.tree p c.requires.shape h in
-    let size : length c.as_mut_slice-marks.result.now ≡ 262144 = ap length (c.as_mut_slice-marks.ensures.value ∙ c.in_ok-unset.ensures) ∙ length-replicate 262144 false in
+    let size : length c.in_ok-marks.marks ≡ 262144 = ap length c.in_ok-marks.ensures ∙ length-replicate 262144 false in
     subst (λ (n : ℕ). p < n) (sym size) bound
 
 pub run-requires-clause-unmarked : goal.run-requires-clause-unmarked
-run-requires-clause-unmarked c = λ p h.
-    ap (λ marks. get_or marks p false) (c.as_mut_slice-marks.ensures.value ∙ c.in_ok-unset.ensures) ∙ none_marked (opened_by c.args.seal.now) 262144 p h
+run-requires-clause-unmarked c = λ p. ap (λ marks. get_or marks p false) c.in_ok-marks.ensures ∙ get_or-same 262144 p false
 
 pub returns-in_err-exit-clause-stop : goal.returns-in_err-exit-clause-stop
 returns-in_err-exit-clause-stop c =

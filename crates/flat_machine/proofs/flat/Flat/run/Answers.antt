@@ -1,14 +1,6 @@
-use Rattle.std.proofs.Common.{refl}
-use Rattle.flat_machine.proofs.RunSteps.{uncut_same}
 use Rattle.flat_machine.proofs.flat.Flat.run.Goals as goal
-
-pub invariant_of-self : goal.invariant_of-self
-invariant_of-self c = uncut_same _ _ refl c.lift_pages.ensures.same_bytes refl refl c.self.invariant
-
-pub invariant_of-self-2 : goal.invariant_of-self-2
-invariant_of-self-2 c = uncut_same _ _ refl c.lift_pages.ensures.same_bytes refl refl c.self.invariant
 
 pub returns-in-Some-clause-outcome : goal.returns-in-Some-clause-outcome
 returns-in-Some-clause-outcome c image words stands =
     let ended = rw c.in-Some.is at c.in_ok-outcome.ensures.ended in
-    ended image words (c.loop-outcome.invariant.0 image words stands)
+    ended image words (c.go_quickly.ensures.stands image words (c.loop-outcome.invariant.0 image words stands))

@@ -1,5 +1,4 @@
 use Rattle.std.proofs.Common.{◌≡◌, ℕ, ◌/◌, ◌%◌, List, length, sym, ap, ◌∙◌, arith}
-use Rattle.std.specs.Int.{to_le_bytes}
 use Rattle.std.specs.Box.{with_value}
 use Rattle.page_core.specs.Memory.{put}
 use Rattle.page_core.specs.Memories.{flat}

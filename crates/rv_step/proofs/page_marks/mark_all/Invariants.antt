@@ -1,6 +1,6 @@
 use Rattle.std.proofs.Common.{◌≡◌, ℕ, ◌<◌, ◌||◌, false, get_or, length, take}
 use Rattle.page_core.specs.Memory.{is_among}
-use Rattle.seal_replay.proofs.marks.mark_all.Given as goal
+use Rattle.rv_step.proofs.page_marks.mark_all.Given as goal
 
 abbrev pub invariant-loop-page : goal.invariant-loop-page
 invariant-loop-page l =
