@@ -3,7 +3,6 @@ use Rattle.std.proofs.Common.{◌≡◌, ℕ, zero, suc, ◌/◌, ◌<◌, List,
 use Rattle.std.specs.Prelude.{Contains}
 use Rattle.page_core.specs.Memory.{Within}
 use Rattle.page_core.specs.Memories.{page_of}
-use Rattle.part_tree.specs.Tree.{root}
 use Rattle.part_tree.specs.Part.{Part, open_numbers}
 use Rattle.part_tree.proofs.Change.{root_of-agree}
 use Rattle.rv_step.specs.Machine.{State, foot_of, full}

@@ -6,6 +6,8 @@ pub mod Replays
 pub mod Claimed
 pub mod Limited
 pub mod UnderWay
+pub mod Quickly
+pub mod MarkedPages
 pub mod Sealed
 pub mod Onward
 pub mod Outcomes

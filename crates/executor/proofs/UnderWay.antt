@@ -1,5 +1,5 @@
 -- The segment that is under way, from one call to the next.
-use Rattle.std.proofs.Common.{◌≡◌, ◌⊎◌, inl, inr, ℕ, suc, ◌+◌, ◌-◌, ◌*◌, ◌<◌, ◌≤◌, Bool, true, false, leb, List, [], ◌++◌, length, Option, Some, None, IsTrue, refl, sym, ap, ap₂, ◌∙◌, subst, arith, length-append}
+use Rattle.std.proofs.Common.{◌≡◌, ◌⊎◌, inl, inr, ℕ, suc, ◌+◌, ◌-◌, ◌*◌, ◌<◌, ◌≤◌, Bool, true, false, leb, ltb, List, [], ◌++◌, length, Option, Some, None, IsTrue, refl, sym, ap, ap₂, ◌∙◌, subst, arith, length-append}
 use Rattle.std.proofs.lemmas.Option.{none-some, same_Some}
 use Rattle.std.proofs.lemmas.Bool.{true≢false}
 use Rattle.std.specs.Prelude.{is_some, replicate, ◌&&◌}
@@ -8,12 +8,13 @@ use Rattle.page_core.specs.Memory.{ascending}
 use Rattle.page_core.specs.Stored.{IsStoredFrom, memory_of}
 use Rattle.host_calls.specs.Meters.{Metered, with_step, has_room}
 use Rattle.rv_isa.specs.Registers.{AreRegisters}
-use Rattle.rv_step.specs.Machine.{State, Halted, step_of, foot_of, step_cost, full}
+use Rattle.rv_step.specs.Machine.{State, Halted, step_of, foot_of, step_cost, full, first_closed}
 use Rattle.rv_step.specs.Laws.{IsReady}
 use Rattle.rv_step.specs.Runs.{start, after, run_cost, run_pages, pages_at, IsOutcome}
 use Rattle.rv_step.specs.declared.outcome.Outcome.{Outcome}
 use Rattle.rv_step.proofs.Runs.{step_back, after-add, spent_next}
 use Rattle.seal_replay.proofs.Chains.{start_ready}
+use Rattle.flat_machine.proofs.RunFeet.{none_closed}
 use Rattle.flat_machine.specs.Going.{Going, flat_state, went_steps, went_steps_in, HaltsWith, IsRunOf, DoesOne, DoesNone, IsRunEnd}
 use Rattle.executor.specs.Segments.{Limits, is_fault, done_in, segment_fits, segments}
 use Rattle.executor.specs.Proving.{run_words}
@@ -171,7 +172,7 @@ cutting_begun c at untold unheld pc read stored memory h = record {
 }
 
 -- ---- one step more
-touched-suc : (s : State) (n : ℕ) (u : State) → after s n ≡ Some u → run_pages s (suc n) ≡ run_pages s n ++ foot_of u
+pub touched-suc : (s : State) (n : ℕ) (u : State) → after s n ≡ Some u → run_pages s (suc n) ≡ run_pages s n ++ foot_of u
 unfolding run_pages
 touched-suc s n u here = ap (λ (o : Option State). run_pages s n ++ pages_at o) here
 
@@ -191,7 +192,7 @@ room_fits l s n m u here cycles pages cost pages_are =
 pub has_outcome : (g : Going) (image : Image) (words : List ℕ) (limit : ℕ) (o : Outcome) → IsRunEnd g image words limit o → HasOutcome limit (start image words) g.steps (Some o)
 has_outcome g image words limit o ends = (ends.ends, ends.steps ∙ sym (done_to_outcome limit (start image words) o ends.ends))
 
-begun_any : (n : ℕ) (o : Option Beginning) → IsTrue (is_some o) → IsBegun n o
+pub begun_any : (n : ℕ) (o : Option Beginning) → IsTrue (is_some o) → IsBegun n o
 begun_any n None h = absurd (cc)
 begun_any n (Some at) h = tt
 
@@ -366,6 +367,12 @@ few_steps c h untold = go h.stands.segment
         sym (after-add (start h.image h.words) u.b c.steps u.s u.reached) ∙ ap (after (start h.image h.words)) (sym u.steps) ∙ went_all c.going h.image h.words h.stands.run (h.halted untold) in
         omega (arith, spent_least u.s c.steps (flat_state c.going) at, (fits_tells c.limits u.s c.steps u.fits).0, h.limits.most_cycles)
     go (inr over) = some_not_none over.outcome c.outcome over.told untold
+
+-- the pages of the next step are those of a memory
+pub foot_within : (c : Cutting) → IsCutting c → (foot : List ℕ) → foot ≡ foot_of (flat_state c.going) → first_closed (λ page. ltb page 262144) foot ≡ None
+foot_within c h foot is =
+    ap (first_closed (λ page. ltb page 262144)) is
+    ∙ none_closed (flat_state c.going) (run_ready (start h.image h.words) (went_steps c.going) (flat_state c.going) h.ready h.stands.run.reached).aligned
 
 -- ---- an executor before a step that fits
 -- its beginning is held, and this is what the step touches and costs

@@ -3,7 +3,6 @@ ghost use Rattle.std.specs.Arc.{arc_value};
 ghost use Rattle.page_core.specs.Images.{Image as PlainImage};
 ghost use Rattle.elf_image.specs.Loaded.{image_of};
 ghost use Rattle.rv_step.specs.Runs.{start};
-ghost use Rattle.host_calls.specs.Meters.{with_step, has_room};
 ghost use Rattle.receipt_types.specs.Bundles.{item};
 ghost use Rattle.executor.specs.Proving.{cut_seals};
 ghost use Rattle.executor.specs.Cutting.{CutsRun, IsWhole, SameButBeginning};
@@ -11,14 +10,14 @@ ghost use Rattle.executor.specs.Giving.{Gives};
 
 use crate::cut::Cut;
 use crate::limits::Limits;
+use crate::segment_meter::SegmentMeter;
 use byte_cursor::WordList;
 use digest_core::Digester;
 use elf_image::Image;
 use flat_machine::Flat;
-use host_calls::Meter;
 use page_tree::PageTree;
 use receipt_types::{MOST_SEALS, Seal};
-use rv_step::{Looked, Outcome};
+use rv_step::Outcome;
 use std::alloc::{AllocError, Global};
 use std::marker::Model;
 use std::sync::Arc;
@@ -62,7 +61,7 @@ pub struct Executor<D: Digester> {
     number: u32,
     beginning: Option<Beginning<D>>,
     steps: u32,
-    meter: Meter,
+    meter: SegmentMeter,
     outcome: Option<Outcome>,
     alloc: Global,
 }
@@ -106,17 +105,6 @@ fn copied(alloc: Global, words: &[u32]) -> Result<WordList, AllocError>
     Ok(list)
 }
 
-// Adds a step to a meter that has room for it.
-fn add_step(meter: &mut Meter, looked: &Looked)
-    requires room { IsTrue (has_room looked.now.foot looked.now.cost meter.old.segment) }
-    requires spare { 6 ≤ meter.old.spare }
-    ensures { meter.new.segment ≡ with_step looked.now.foot looked.now.cost meter.old.segment }
-{
-    if meter.add(&looked.foot, looked.cost).is_err() {
-        unreachable!();
-    }
-}
-
 impl<D: Digester> Executor<D> {
     /// The run of an image and input words under limits, of which nothing is cut yet. An AllocError is want of memory.
     pub fn new(
@@ -137,7 +125,7 @@ impl<D: Digester> Executor<D> {
             number: 0,
             beginning: None,
             steps: 0,
-            meter: Meter::new(alloc, limits.cycles(), limits.pages()),
+            meter: SegmentMeter::new(alloc, limits.cycles(), limits.pages())?,
             outcome: None,
             alloc,
         })
@@ -166,16 +154,55 @@ impl<D: Digester> Executor<D> {
             return Ok(Next::TooManySeals);
         }
         let cut = self.cut()?;
+        // first, since it may be refused, and then the cut is made again
+        self.meter.clear()?;
         self.number += 1;
         self.beginning = None;
         self.steps = 0;
-        self.meter.clear();
         Ok(Next::Cut(cut))
+    }
+
+    // Does the next steps of the segment that is under way, one at least, where the run goes on after them; else the segment
+    // is whole.
+    fn advance(&mut self) -> Result<bool, AllocError>
+        ensures stands { (image : PlainImage) (words : List ℕ) → CutsRun self.old image words →
+            CutsRun self.new image words }
+        ensures same { (self.new.limits ≡ self.old.limits) × (self.new.number ≡ self.old.number) }
+        ensures went { IfOk result
+            (λ went. IsTrue went →
+            (self.old.going.cycles < self.new.going.cycles) × (self.new.going.cycles ≤
+            self.new.limits.limit)) }
+        ensures whole { IfOk result
+            (λ went. IsFalse went → (image : PlainImage) (words : List ℕ) →
+            (stands : CutsRun self.new image words) → IsWhole (start image
+            words) self.new stands.segment) }
+    {
+        self.go_quickly();
+        self.go_on()
+    }
+
+    // Does the next steps of the segment in place, as long as each merely goes on in pages that it has touched, within the
+    // limits on its cost and on the run's.
+    fn go_quickly(&mut self)
+        ensures stands { (image : PlainImage) (words : List ℕ) → CutsRun self.old image words →
+            CutsRun self.new image words }
+        ensures same { (self.new.limits ≡ self.old.limits) × (self.new.number ≡ self.old.number) }
+        ensures more { self.old.going.cycles ≤ self.new.going.cycles }
+    {
+        if self.outcome.is_some() || self.beginning.is_none() {
+            return;
+        }
+        let left = self.limits.limit() - self.flat.cycles();
+        let done = self
+            .flat
+            .go_quickly(&self.meter, self.meter.room().min(left)) as u32;
+        self.steps += done;
+        self.meter.add_quick(done);
     }
 
     // Does the next step, where it belongs to the segment that is under way and the run goes on after it; else the segment
     // is whole.
-    fn advance(&mut self) -> Result<bool, AllocError>
+    fn go_on(&mut self) -> Result<bool, AllocError>
         ensures stands { (image : PlainImage) (words : List ℕ) → CutsRun self.old image words →
             CutsRun self.new image words }
         ensures same { (self.new.limits ≡ self.old.limits) × (self.new.number ≡ self.old.number) }
@@ -199,12 +226,12 @@ impl<D: Digester> Executor<D> {
         self.meter.reserve()?;
         match self.flat.step(self.limits.limit())? {
             None => {
-                add_step(&mut self.meter, &looked);
+                self.meter.add(&looked.foot, looked.cost);
                 self.steps += 1;
                 Ok(true)
             }
             Some(Outcome::Halted(code)) => {
-                add_step(&mut self.meter, &looked);
+                self.meter.add(&looked.foot, looked.cost);
                 self.steps += 1;
                 self.outcome = Some(Outcome::Halted(code));
                 Ok(false)

@@ -5,6 +5,7 @@ mod cut;
 mod executor;
 mod laws;
 mod limits;
+mod segment_meter;
 
 pub use cut::Cut;
 pub use executor::{Executor, Next};

@@ -1,24 +1,29 @@
-use Rattle.std.proofs.Common.{refl, ap, ◌∙◌, arith}
+use Rattle.std.proofs.Common.{None, refl, sym, ap, ◌∙◌, subst, arith}
 use Rattle.page_core.specs.Images.{Image}
 use Rattle.elf_image.specs.Loaded.{image_of}
 use Rattle.host_calls.specs.Meters.{Metered}
 use Rattle.flat_machine.specs.Going.{Going}
+use Rattle.executor.specs.Cutting.{Cutting, CutsRun, IsCutting}
 use Rattle.executor.proofs.UnderWay.{zero_registers, stands_new, cutting_new}
 use Rattle.executor.proofs.executor.Executor.new.Goals as goal
 
-pub invariant_of-result : goal.invariant_of-result
-invariant_of-result g c =
+pub invariant_of-result-2 : goal.invariant_of-result-2
+invariant_of-result-2 g c =
     let steps = c.in_ok-lift.ensures.same.steps ∙ c.new-flat.ensures.start in
     let cycles = c.in_ok-lift.ensures.same.cycles in
     let image : Image = image_of c.args.image in
     let run = c.lift.ensures.stands image c.args.words.items c.new-flat.ensures.stands in
-    cutting_new _ image c.args.words.items (record { aligned = c.args.image.aligned; registers = zero_registers; is_word = omega (arith, c.args.image.below) })
-    (stands_new _ image c.args.words.items run steps refl refl refl (ap (λ (m : Metered). m.cost) c.new.ensures) (ap (λ (m : Metered). m.touched) c.new.ensures) refl)
+    let at : Going → Cutting = λ x. record { going = x; limits = c.args.limits; number = 0; beginning = None; steps = 0; meter = c.in_ok-new.field-0.segment; outcome = None } in
+    subst (λ (x : Going). IsCutting (at x)) (sym c.flat.view_is)
+    (cutting_new (at c.lift.new.self) image c.args.words.items (record { aligned = c.args.image.aligned; registers = zero_registers; is_word = omega (arith, c.args.image.below) })
+    (stands_new (at c.lift.new.self) image c.args.words.items run steps refl refl refl (ap (λ (m : Metered). m.cost) c.in_ok-new.ensures) (ap (λ (m : Metered). m.touched) c.in_ok-new.ensures) refl)
     steps (omega (arith, cycles, steps, c.new-flat.ensures.start, ap (λ (x : Going). x.cycles) c.flat.view_is, ap (λ (x : Going). x.steps) c.flat.view_is, c.flat.invariant.going.most)) refl c.cycles.ensures.ranges
-    (ap (λ (m : Metered). m.cycles) c.new.ensures ∙ c.cycles.ensures.value) (ap (λ (m : Metered). m.pages) c.new.ensures ∙ c.pages.ensures.value)
+    (ap (λ (m : Metered). m.cycles) c.in_ok-new.ensures ∙ c.cycles.ensures.value) (ap (λ (m : Metered). m.pages) c.in_ok-new.ensures ∙ c.pages.ensures.value))
 
 pub returns-clause-stands : goal.returns-clause-stands
 returns-clause-stands g c =
     let steps = c.in_ok-lift.ensures.same.steps ∙ c.new-flat.ensures.start in
     let image : Image = image_of c.args.image in
-    stands_new _ image c.args.words.items (c.lift.ensures.stands image c.args.words.items c.new-flat.ensures.stands) steps refl refl refl (ap (λ (m : Metered). m.cost) c.new.ensures) (ap (λ (m : Metered). m.touched) c.new.ensures) refl
+    let at : Going → Cutting = λ x. record { going = x; limits = c.args.limits; number = 0; beginning = None; steps = 0; meter = c.in_ok-new.field-0.segment; outcome = None } in
+    subst (λ (x : Going). CutsRun (at x) image c.args.words.items) (sym c.flat.view_is)
+    (stands_new (at c.lift.new.self) image c.args.words.items (c.lift.ensures.stands image c.args.words.items c.new-flat.ensures.stands) steps refl refl refl (ap (λ (m : Metered). m.cost) c.in_ok-new.ensures) (ap (λ (m : Metered). m.touched) c.in_ok-new.ensures) refl)

@@ -1,5 +1,6 @@
 use Rattle.std.proofs.Common.{ℕ, List, length, sym, ap, ap₂, ◌∙◌, subst, arith}
 use Rattle.page_core.specs.Images.{Image}
+use Rattle.host_calls.specs.Meters.{Metered}
 use Rattle.rv_step.specs.Runs.{start, IsOutcome}
 use Rattle.receipt_types.specs.Bundles.{item}
 use Rattle.executor.specs.Segments.{Limits, lengths}
@@ -60,16 +61,27 @@ returns-in_err-cut-clause-stands g c image words stands = c.advance.ensures.stan
 pub invariant_of-self : goal.invariant_of-self
 invariant_of-self g c =
     let v : Cutting = record { going = c.self.inside.flat; limits = c.self.inside.limits; number = c.self.inside.number; beginning = c.self.inside.beginning; steps = c.self.inside.steps; meter = c.self.inside.meter.segment; outcome = c.self.inside.outcome } in
+    subst (λ (m : Metered). IsCutting (record v { meter = m })) (sym c.in_err-clear.ensures.kept) c.self.invariant
+
+pub returns-in_err-clear-clause-stands : goal.returns-in_err-clear-clause-stands
+returns-in_err-clear-clause-stands g c image words stands =
+    let v : Cutting = record { going = c.self.inside.flat; limits = c.self.inside.limits; number = c.self.inside.number; beginning = c.self.inside.beginning; steps = c.self.inside.steps; meter = c.self.inside.meter.segment; outcome = c.self.inside.outcome } in
+    subst (λ (m : Metered). CutsRun (record v { meter = m }) image words) (sym c.in_err-clear.ensures.kept)
+    (subst (λ (x : Cutting). CutsRun x image words) (sym c.self.view_is) (c.advance.ensures.stands image words (c.loop.invariant.0 image words stands)))
+
+pub invariant_of-self-2 : goal.invariant_of-self-2
+invariant_of-self-2 g c =
+    let v : Cutting = record { going = c.self.inside.flat; limits = c.self.inside.limits; number = c.self.inside.number; beginning = c.self.inside.beginning; steps = c.self.inside.steps; meter = c.self.inside.meter.segment; outcome = c.self.inside.outcome } in
     let whole = subst (λ (x : Cutting). (image : Image) (words : List ℕ) → (stands : CutsRun x image words) → IsWhole (start image words) x stands.segment) (sym c.self.view_is) (c.in_ok-advance.ensures.whole c.if-branch.false) in
     let h : IsCutting v = c.self.invariant in
-    cutting_given v c.clear.new.self.segment (omega (arith, c.if-self-eq0.false)) c.clear.ensures h (whole h.image h.words h.stands) (omega (arith, h.number, c.if-self-eq-MOST_SEALS.false))
+    cutting_given v c.clear.new.self.segment (omega (arith, c.if-self-eq0.false)) c.in_ok-clear.ensures.fresh h (whole h.image h.words h.stands) (omega (arith, h.number, c.if-self-eq-MOST_SEALS.false))
 
 pub returns-clause-stands : goal.returns-clause-stands
 returns-clause-stands g c image words stands =
     let v : Cutting = record { going = c.self.inside.flat; limits = c.self.inside.limits; number = c.self.inside.number; beginning = c.self.inside.beginning; steps = c.self.inside.steps; meter = c.self.inside.meter.segment; outcome = c.self.inside.outcome } in
     let whole = subst (λ (x : Cutting). (image : Image) (words : List ℕ) → (stands : CutsRun x image words) → IsWhole (start image words) x stands.segment) (sym c.self.view_is) (c.in_ok-advance.ensures.whole c.if-branch.false) in
     let here : CutsRun v image words = subst (λ (x : Cutting). CutsRun x image words) (sym c.self.view_is) (c.advance.ensures.stands image words (c.loop.invariant.0 image words stands)) in
-    stands_given v c.clear.new.self.segment (omega (arith, c.if-self-eq0.false)) c.clear.ensures c.self.invariant.halted image words here (whole image words here)
+    stands_given v c.clear.new.self.segment (omega (arith, c.if-self-eq0.false)) c.in_ok-clear.ensures.fresh c.self.invariant.halted image words here (whole image words here)
 
 pub returns-clause-gives : goal.returns-clause-gives
 returns-clause-gives g c image words stands =
