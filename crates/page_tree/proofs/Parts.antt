@@ -1,18 +1,15 @@
--- The part tree of a memory, made from a tree that holds its pages, one level at a time. H is the digest function.
+-- The part tree of a memory, one level at a time. H is the digest function.
 use Rattle.std.proofs.Common.{ℕ, zero, suc, ◌≡◌, ◌-◌, ◌+◌, ◌*◌, ◌/◌, ◌^◌, ◌≤◌, ◌||◌, ◌==◌, Bool, true, false, List, [], ◌∷◌, ◌++◌, length, get_or, inl, inr, refl, sym, ap, ap₂, ◌∙◌, arith}
-use Rattle.std.specs.Prelude.{All, if◌then◌else◌, Option, unwrap_or, replicate}
+use Rattle.std.specs.Prelude.{All, if◌then◌else◌}
 use Rattle.std.proofs.Math.Bool.{or-false}
 use Rattle.std.proofs.lemmas.Bool.{eqb-true, eqb-false}
 use Rattle.std.proofs.lemmas.Bool.Decides.{eqb_tells}
 use Rattle.std.proofs.lemmas.List.Elements.{All-weaker}
 use Rattle.std.proofs.lemmas.List.Folds.{list_any-append, list_any_none, list_any_at}
-use Rattle.page_core.specs.Pages.{Pages, zero_page}
-use Rattle.page_core.specs.Stored.{stored_pages}
+use Rattle.page_core.specs.Pages.{Pages}
 use Rattle.part_tree.specs.Tree.{node, IsBelow}
 use Rattle.part_tree.specs.Part.{Part, pruned, branch, leaf, any_below, part_of}
-use Rattle.part_tree.proofs.Below.{below_left, below_right, below_one, below_itself}
-use Rattle.page_tree.specs.Grown.{Grown, bare, stored, fork, digest_at, IsGrown, stored_in, Holds}
-use Rattle.page_tree.proofs.Held.{at_one, digest_holds, bare_left, bare_right, left_holds, right_holds}
+use Rattle.part_tree.proofs.Below.{below_left, below_right, below_one}
 
 -- none of the pages is below the node
 abbrev Away : ℕ → ℕ → List ℕ → Type 0
@@ -56,11 +53,6 @@ no_page pages test is passed = eqb-true (length pages) 0 (sym is ∙ passed)
 pub some_page : (pages : List ℕ) (test : Bool) → test ≡ (length pages == 0) → test ≡ false → 1 ≤ length pages
 some_page pages test is failed = omega (arith, eqb-false (length pages) 0 (sym is ∙ failed))
 
--- a fork stands above height 0
-pub fork_high : (H : List ℕ → List ℕ) (height : ℕ) (digest : List ℕ) (left right : Grown) → IsGrown H height (fork digest left right) → 1 ≤ height
-fork_high H zero digest left right grown = absurd grown
-fork_high H (suc h) digest left right grown = omega arith
-
 module _ (H : List ℕ → List ℕ) (m : Pages) where
   -- where the test and the two sides are the same, so is the tree
   chosen_same : (a b : Bool) (l r p q t : Part) → a ≡ b → l ≡ p → r ≡ q → (if a then branch l r else t) ≡ (if b then branch p q else t)
@@ -90,20 +82,20 @@ module _ (H : List ℕ → List ℕ) (m : Pages) where
       (part_back h (2 * i + 1) xs ys (none_right h i xs none))
 
   -- the part tree without a page to open is pruned
-  part_none : (height i : ℕ) (pages : List ℕ) → length pages ≡ 0 → part_of H m pages height i ≡ pruned (node H m height i)
+  pub part_none : (height i : ℕ) (pages : List ℕ) → length pages ≡ 0 → part_of H m pages height i ≡ pruned (node H m height i)
   unfolding part_of
   part_none zero i [] none = refl
   part_none (suc h) i [] none = refl
   part_none height i (x ∷ xs) none = absurd (omega (arith, none))
 
   -- that of a page to open is its leaf
-  part_leaf : (height i : ℕ) (pages : List ℕ) → height ≡ 0 → 1 ≤ length pages → All (IsBelow height i) pages → part_of H m pages height i ≡ leaf (m i)
+  pub part_leaf : (height i : ℕ) (pages : List ℕ) → height ≡ 0 → 1 ≤ length pages → All (IsBelow height i) pages → part_of H m pages height i ≡ leaf (m i)
   unfolding part_of
   part_leaf zero i pages low some below = ap (λ (b : Bool). if b then leaf (m i) else pruned (node H m 0 i)) (all_found 0 i pages some below)
   part_leaf (suc h) i pages low some below = absurd (omega (arith, low))
 
   -- that above pages to open is a branch over the part trees of the pages on each side
-  part_branch : (height i : ℕ) (pages xs ys : List ℕ) → 1 ≤ height → 1 ≤ length pages → All (IsBelow height i) pages → pages ≡ xs ++ ys
+  pub part_branch : (height i : ℕ) (pages xs ys : List ℕ) → 1 ≤ height → 1 ≤ length pages → All (IsBelow height i) pages → pages ≡ xs ++ ys
       → All (IsBelow (height - 1) (2 * i)) xs → All (IsBelow (height - 1) (2 * i + 1)) ys
       → part_of H m pages height i ≡ branch (part_of H m xs (height - 1) (2 * i)) (part_of H m ys (height - 1) (2 * i + 1))
   unfolding part_of
@@ -117,56 +109,3 @@ module _ (H : List ℕ → List ℕ) (m : Pages) where
       ∙ part_front h (2 * i) xs ys (All-weaker (IsBelow h (2 * i + 1)) (λ page. IsBelow h (2 * i) page → ⊥) (λ page right left. below_one h i page left right) ys (rw one at rights)))
       (ap (λ (list : List ℕ). part_of H m list h (2 * i + 1)) listed
       ∙ part_back h (2 * i + 1) xs ys (All-weaker (IsBelow h (2 * i)) (λ page. IsBelow h (2 * i + 1) page → ⊥) (λ page left right. below_one h i page left right) xs (rw one at lefts))))
-
-  -- without a page to open, the digest of a tree that holds the memory's pages is the part tree
-  pub open_none : (height i : ℕ) (t : Grown) (pages digest : List ℕ) → length pages ≡ 0 → IsGrown H height t → digest ≡ digest_at H height t
-      → Holds height i t m → pruned digest ≡ part_of H m pages height i
-  open_none height i t pages digest none grown is holds = ap pruned (is ∙ digest_holds H m height i t grown holds) ∙ sym (part_none height i pages none)
-
-  -- with one, at height 0, the page that the tree stores is the part tree
-  open_page : (height i : ℕ) (t : Grown) (pages page : List ℕ) (opens : Part) → height ≡ 0 → 1 ≤ length pages → All (IsBelow height i) pages
-      → stored_pages (stored_in i t) i ≡ page → opens ≡ leaf page → Holds height i t m → opens ≡ part_of H m pages height i
-  open_page zero i t pages page opens low some below is made holds =
-      made ∙ ap leaf (sym (holds i (below_itself i) ∙ is)) ∙ sym (part_leaf 0 i pages refl some below)
-  open_page (suc h) i t pages page opens low some below is made holds = absurd (omega (arith, low))
-
-  -- which is a stored page's bytes
-  pub open_stored : (height i : ℕ) (digest page bytes pages : List ℕ) (opens : Part) → IsGrown H height (stored digest page) → 1 ≤ length pages → All (IsBelow height i) pages
-      → bytes ≡ page → opens ≡ leaf bytes → Holds height i (stored digest page) m → opens ≡ part_of H m pages height i
-  open_stored zero i digest page bytes pages opens grown some below same made =
-      open_page 0 i (stored digest page) pages page opens refl some below (ap (λ (o : Option (List ℕ)). unwrap_or o zero_page) (at_one i page)) (made ∙ ap leaf same)
-  open_stored (suc h) i digest page bytes pages opens grown some below same made = absurd grown
-
-  -- and zeros where none is stored
-  pub open_zeros : (height i : ℕ) (pages : List ℕ) (opens : Part) → height ≡ 0 → 1 ≤ length pages → All (IsBelow height i) pages
-      → opens ≡ leaf (replicate 1024 0) → Holds height i bare m → opens ≡ part_of H m pages height i
-  unfolding zero_page
-  open_zeros height i pages opens low some below = open_page height i bare pages (replicate 1024 0) opens low some below refl
-
-  -- above height 0, the branch over what was opened on each side of a fork is the part tree
-  pub open_fork : (height i : ℕ) (digest : List ℕ) (left right : Grown) (pages xs ys : List ℕ) (l r opens : Part) → IsGrown H height (fork digest left right)
-      → 1 ≤ length pages → All (IsBelow height i) pages → pages ≡ xs ++ ys → All (IsBelow (height - 1) (2 * i)) xs → All (IsBelow (height - 1) (2 * i + 1)) ys
-      → (Holds (height - 1) (2 * i) left m → l ≡ part_of H m xs (height - 1) (2 * i))
-      → (Holds (height - 1) (2 * i + 1) right m → r ≡ part_of H m ys (height - 1) (2 * i + 1))
-      → opens ≡ branch l r → Holds height i (fork digest left right) m → opens ≡ part_of H m pages height i
-  open_fork zero i digest left right pages xs ys l r opens grown some below listed lefts rights is_left is_right made holds = absurd grown
-  open_fork (suc h) i digest left right pages xs ys l r opens grown some below listed lefts rights is_left is_right made holds =
-      let one : suc h - 1 ≡ h = omega arith in
-      made
-      ∙ ap₂ branch
-      ((rw one at is_left) (left_holds H m h i digest left right grown.1 grown.2 holds))
-      ((rw one at is_right) (right_holds H m h i digest left right grown.1 grown.2 holds))
-      ∙ sym (rw one at (part_branch (suc h) i pages xs ys (omega arith) some below listed lefts rights))
-
-  -- and so is that over each side of a node without a stored page
-  pub open_bare : (height i : ℕ) (pages xs ys : List ℕ) (l r opens : Part) → 1 ≤ height
-      → 1 ≤ length pages → All (IsBelow height i) pages → pages ≡ xs ++ ys → All (IsBelow (height - 1) (2 * i)) xs → All (IsBelow (height - 1) (2 * i + 1)) ys
-      → (Holds (height - 1) (2 * i) bare m → l ≡ part_of H m xs (height - 1) (2 * i))
-      → (Holds (height - 1) (2 * i + 1) bare m → r ≡ part_of H m ys (height - 1) (2 * i + 1))
-      → opens ≡ branch l r → Holds height i bare m → opens ≡ part_of H m pages height i
-  open_bare zero i pages xs ys l r opens high some below listed lefts rights is_left is_right made holds = absurd (omega (arith, high))
-  open_bare (suc h) i pages xs ys l r opens high some below listed lefts rights is_left is_right made holds =
-      let one : suc h - 1 ≡ h = omega arith in
-      made
-      ∙ ap₂ branch ((rw one at is_left) (bare_left m h i holds)) ((rw one at is_right) (bare_right m h i holds))
-      ∙ sym (rw one at (part_branch (suc h) i pages xs ys high some below listed lefts rights))

@@ -1,3 +1,4 @@
+pub mod Blocks
+pub mod Changes
 pub mod Grown
-pub mod Views
 pub mod Laws

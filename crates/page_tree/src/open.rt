@@ -1,14 +1,12 @@
-ghost use Rattle.std.specs.Prelude.{◌≡◌, ℕ, ◌-◌, ◌+◌, ◌*◌, ◌^◌, ◌<◌, ◌≤◌, ◌++◌, All, IfOk};
-ghost use Rattle.page_core.specs.Pages.{Pages};
+ghost use Rattle.std.specs.Prelude.{◌≡◌, ◌-◌, ◌+◌, ◌*◌, ◌^◌, ◌<◌, ◌≤◌, ◌++◌, All, IfOk};
+ghost use Rattle.page_core.specs.Stored.{stored_pages};
 ghost use Rattle.part_tree.specs.Tree.{IsBelow};
 ghost use Rattle.part_tree.specs.Part.{branch, leaf, part_of};
 ghost use Rattle.part_tree.specs.Views.{part};
-ghost use Rattle.page_tree.specs.Grown.{bare, IsGrown, Holds, AscendFrom};
-ghost use Rattle.page_tree.specs.Views.{grown_of};
+ghost use Rattle.page_tree.specs.Grown.{AscendFrom};
 ghost use Rattle.part_tree.specs.declared.sizes.TheConstants.{HEIGHT};
 
-use crate::nodes::Node;
-use crate::zeros::ZeroNodes;
+use crate::tree::PageTree;
 use digest_core::Digester;
 use page_core::Page;
 use part_tree::PartTree;
@@ -17,40 +15,7 @@ use std::alloc::{AllocError, Global};
 // The part tree of a node that opens these pages, all of them at or below it.
 pub(crate) fn open_below<D: Digester>(
     alloc: Global,
-    zeros: &ZeroNodes<D>,
-    at: &Node,
-    height: u32,
-    index: u32,
-    pages: &[u32],
-) -> Result<PartTree, AllocError>
-    requires low { height ≤ HEIGHT }
-    requires fits { index < 2 ^ (HEIGHT - height) }
-    requires grown { IsGrown D.digest_of height (grown_of at.now) }
-    requires below { All (IsBelow height index) pages.now }
-    requires ascending { AscendFrom 0 pages.now }
-    ensures { IfOk result
-        (λ tree. (m : Pages) → Holds height index (grown_of at.now) m →
-        part tree ≡ part_of D.digest_of m pages.now height index) }
-{
-    if pages.is_empty() {
-        return Ok(PartTree::Pruned(at.digest(height, zeros)));
-    }
-    match at {
-        Node::Bare => open_bare(alloc, zeros, height, index, pages),
-        Node::Stored(_, page) => leaf(alloc, page.bytes()),
-        Node::Fork(_, left, right) => {
-            let (left_pages, right_pages) = sides_of(pages, height, index);
-            let left = open_below(alloc, zeros, left, height - 1, 2 * index, left_pages)?;
-            let right = open_below(alloc, zeros, right, height - 1, 2 * index + 1, right_pages)?;
-            branch(alloc, left, right)
-        }
-    }
-}
-
-// The part tree of a node without a stored page that opens these pages, all of them at or below it.
-fn open_bare<D: Digester>(
-    alloc: Global,
-    zeros: &ZeroNodes<D>,
+    tree: &PageTree<D>,
     height: u32,
     index: u32,
     pages: &[u32],
@@ -59,20 +24,29 @@ fn open_bare<D: Digester>(
     requires fits { index < 2 ^ (HEIGHT - height) }
     requires below { All (IsBelow height index) pages.now }
     requires ascending { AscendFrom 0 pages.now }
-    ensures { IfOk result
-        (λ tree. (m : Pages) → Holds height index bare m →
-        part tree ≡ part_of D.digest_of m pages.now height index) }
+    ensures { IfOk result (λ part_tree. part part_tree
+        ≡ part_of D.digest_of (stored_pages tree.now) pages.now height index) }
 {
     if pages.is_empty() {
-        return Ok(PartTree::Pruned(zeros.at(height)));
+        return Ok(PartTree::Pruned(tree.node_at(height as u8, index)));
     }
     if height == 0 {
-        return leaf(alloc, &[0; 1024]);
+        return leaf(alloc, bytes_of(tree, index));
     }
     let (left_pages, right_pages) = sides_of(pages, height, index);
-    let left = open_bare(alloc, zeros, height - 1, 2 * index, left_pages)?;
-    let right = open_bare(alloc, zeros, height - 1, 2 * index + 1, right_pages)?;
+    let left = open_below(alloc, tree, height - 1, 2 * index, left_pages)?;
+    let right = open_below(alloc, tree, height - 1, 2 * index + 1, right_pages)?;
     branch(alloc, left, right)
+}
+
+// The bytes of a page, zeros where it isn't stored.
+fn bytes_of<D: Digester>(tree: &PageTree<D>, page: u32) -> &[u8; 1024]
+    ensures { result.now ≡ stored_pages tree.now page }
+{
+    match tree.page(page) {
+        Some(page) => page.bytes(),
+        None => &[0; 1024],
+    }
 }
 
 // An open page of these bytes.

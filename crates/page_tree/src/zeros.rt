@@ -1,5 +1,5 @@
 ghost use Rattle.std.specs.Prelude.{◌≡◌, ◌≤◌, ℕ, get_or, []};
-ghost use Rattle.page_tree.specs.Grown.{zero_node};
+ghost use Rattle.page_tree.specs.Blocks.{zero_node};
 ghost use Rattle.part_tree.specs.declared.sizes.TheConstants.{HEIGHT};
 
 use digest_core::{Digest, Digester};
@@ -33,5 +33,13 @@ impl<D: Digester> ZeroNodes<D> {
         ensures { result ≡ zero_node D.digest_of height }
     {
         self.digests[height as usize]
+    }
+
+    // The same digests, which takes no memory.
+    pub(crate) fn copied(&self) -> ZeroNodes<D> {
+        ZeroNodes {
+            digests: self.digests,
+            of: PhantomData,
+        }
     }
 }

@@ -8,7 +8,7 @@ use crate::images::load_file;
 use crate::isa::{compare, compute, decode_word};
 use crate::lines::Lines;
 use crate::machine::{step_in, step_often, step_once};
-use crate::measures::{count_digests, hash_pages};
+use crate::measures::{add_root, hash_pages};
 use crate::memory_tree::ask_tree;
 use crate::pages::ask_pages;
 use crate::receipts::{Reading, read_file};
@@ -32,7 +32,7 @@ enum Row {
     Flat,
     Cuts,
     CountCuts,
-    Digests,
+    Root,
     HashPages,
     Low(LowRow),
 }
@@ -69,7 +69,7 @@ static ROWS: [(&str, Row); 27] = [
     ("flat", Row::Flat),
     ("cuts", Row::Cuts),
     ("count-cuts", Row::CountCuts),
-    ("digests", Row::Digests),
+    ("root", Row::Root),
     ("hash-pages", Row::HashPages),
     ("decode", Row::Low(LowRow::Decode)),
     ("alu", Row::Low(LowRow::Alu)),
@@ -102,7 +102,7 @@ pub(crate) fn layer_row(
         Row::Flat => flat_calls(alloc, shelf, out, words),
         Row::Cuts => add_cuts(alloc, shelf, out, words),
         Row::CountCuts => count_cuts(alloc, shelf, out, words),
-        Row::Digests => count_digests(alloc, out, words),
+        Row::Root => add_root(alloc, out, words),
         Row::HashPages => hash_pages(alloc, out, words),
         Row::Low(row) => low_row(alloc, shelf, out, row, words),
     }

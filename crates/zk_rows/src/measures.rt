@@ -1,4 +1,4 @@
-//! What is measured: how many digests a tree takes, and how long a row takes.
+//! What is measured: trees over many pages, their hashing, and how long a row takes.
 ghost use Rattle.page_core.specs.declared.sizes.TheConstants.{PAGES};
 ghost use Rattle.std.specs.Prelude.{◌<◌, IfOk};
 
@@ -43,12 +43,12 @@ fn put_page(map: &mut PageMap, number: u32, step: u32) -> Result<(), RowStop> {
     Ok(map.put_page(page_at(number, step)?, &content)?)
 }
 
-/// Adds how many digests the tree of a memory takes that has so many stored pages, each so many after the one before.
-pub(crate) fn count_digests(alloc: Global, out: &mut Lines, words: &[&str]) -> Result<(), RowStop> {
+/// Adds the root of the tree of a memory that has so many stored pages, each so many after the one before.
+pub(crate) fn add_root(alloc: Global, out: &mut Lines, words: &[&str]) -> Result<(), RowStop> {
     let (count, step) = counts_of(words)?;
     let map = memory(alloc, count, step)?;
-    let digests = PageTree::<ShaDigester>::from_map(alloc, &map)?.digests();
-    out.add(format_args!("{digests} digests"))
+    let root = PageTree::<ShaDigester>::from_map(alloc, &map)?.root();
+    out.add(format_args!("{root}"))
 }
 
 /// Hashes the stored pages of the same memory alone.

@@ -1,6 +1,6 @@
 //! Trees over memories.
 ghost use Rattle.page_core.specs.declared.sizes.TheConstants.{PAGES};
-ghost use Rattle.std.specs.Prelude.{◌<◌, IsTrue};
+ghost use Rattle.std.specs.Prelude.{◌≡◌, ◌<◌, IsTrue, map};
 ghost use Rattle.part_tree.specs.Canonical.{IsCanonical};
 ghost use Rattle.part_tree.specs.Views.{part};
 ghost use Rattle.page_tree.specs.Grown.{AscendFrom};
@@ -12,9 +12,11 @@ use crate::stop::RowStop;
 use crate::words::{decimal, split_at_mark};
 use digest_core::{Digest, Digester};
 use page_core::{PAGES, Page, PageMap};
-use page_tree::PageTree;
+use page_tree::{PageTree, Steps};
 use part_tree::{MOST_PAGES, PageList, PartTree};
 use std::alloc::{AllocError, Global};
+use std::marker::Brand;
+use std::sync::ledger::{Blank, Ledger};
 
 /// Makes the tree of the memory that the settings among the words make, and adds its answer to each other word.
 pub(crate) fn ask_tree<D: Digester>(
@@ -45,10 +47,11 @@ fn memory(alloc: Global, shelf: &Shelf, words: &[&str]) -> Result<PageMap, RowSt
 }
 
 fn is_setting(word: &str) -> bool {
-    word.contains('=') && !word.starts_with("change")
+    word.contains('=') && !word.starts_with("change") && !word.starts_with("update")
 }
 
-// `root`, `digests`, `node:HEIGHT,INDEX`, `page:NUMBER`, `open:NUMBER,NUMBER...`, `change:NUMBER=NAME`.
+// `root`, `node:HEIGHT,INDEX`, `page:NUMBER`, `open:NUMBER,NUMBER...`, `change:NUMBER=NAME`,
+// `update:NUMBER=NAME,NUMBER=NAME...`.
 fn add_answer<D: Digester>(
     alloc: Global,
     shelf: &Shelf,
@@ -66,30 +69,16 @@ fn answer_of<D: Digester>(
     tree: &PageTree<D>,
     question: &str,
 ) -> Result<String, RowStop> {
-    let Some((kind, text)) = question.split_once(':') else {
-        return whole_answer::<D>(alloc, tree, question);
-    };
+    if question == "root" {
+        return Ok(digest_text(alloc, &tree.root())?);
+    }
+    let (kind, text) = split_at_mark(question, ':')?;
     match kind {
         "node" => node_text::<D>(alloc, tree, text),
         "page" => page_text::<D>(alloc, tree, text),
         "open" => opened_text::<D>(alloc, tree, text),
         "change" => changed_text::<D>(alloc, shelf, tree, text),
-        _ => Err(RowStop::NoRow),
-    }
-}
-
-// The digest of the whole tree, or how many were computed.
-fn whole_answer<D: Digester>(
-    alloc: Global,
-    tree: &PageTree<D>,
-    question: &str,
-) -> Result<String, RowStop> {
-    match question {
-        "root" => Ok(digest_text(alloc, &tree.root())?),
-        "digests" => {
-            let count = tree.digests();
-            Ok(format!(in alloc; "{count}")?)
-        }
+        "update" => updated_text::<D>(alloc, shelf, tree, text),
         _ => Err(RowStop::NoRow),
     }
 }
@@ -190,4 +179,64 @@ fn changed_root<D: Digester>(
         part.write(number, page);
     }
     Ok(part.root::<D>())
+}
+
+// Puts files as pages into a tree that shares with this one, and tells its root, and the root of this one then.
+fn updated_text<D: Digester>(
+    alloc: Global,
+    shelf: &Shelf,
+    tree: &PageTree<D>,
+    text: &str,
+) -> Result<String, RowStop> {
+    let pages = pages_in(alloc, shelf, text)?;
+    let pages = pages.as_slice();
+    if !pages_ascend(0, pages) {
+        return Err(RowStop::NoRow);
+    }
+    let updated = updated_tree::<D, Brand>(tree, pages, Blank::new(1))?;
+    let new = digest_text(alloc, &updated.root())?;
+    let old = digest_text(alloc, &tree.root())?;
+    Ok(format!(in alloc; "{new}, shared with {old}")?)
+}
+
+// The pages `NUMBER=NAME`, with commas between them.
+fn pages_in(alloc: Global, shelf: &Shelf, text: &str) -> Result<Vec<(u32, Page)>, RowStop> {
+    let mut pages = Vec::new(alloc);
+    if text.is_empty() {
+        return Ok(pages);
+    }
+    for word in text.split(',') {
+        let (number, name) = split_at_mark(word, '=')?;
+        pages.push((decimal(number)?, page_of(shelf.bytes(name)?)?))?;
+    }
+    Ok(pages)
+}
+
+// Whether the numbers of pages ascend without repeats, from one on.
+fn pages_ascend(least: u32, pages: &[(u32, Page)]) -> bool
+    ensures { IsTrue result → AscendFrom least (map (λ page. page.0) pages.now) }
+{
+    match pages.split_first() {
+        None => true,
+        Some((first, rest)) => {
+            least <= first.0 && first.0 < PAGES && pages_ascend(first.0 + 1, rest)
+        }
+    }
+}
+
+// A tree that shares with this one, and then has these pages.
+fn updated_tree<D: Digester, L: Ledger>(
+    tree: &PageTree<D>,
+    pages: &[(u32, Page)],
+    blank: Blank,
+) -> Result<PageTree<D>, AllocError>
+    requires name { blank.name ≡ L.name }
+    requires parts { blank.parts ≡ L.parts }
+    requires some { 0 < L.parts }
+    requires ascending { AscendFrom 0 (map (λ page. page.0) pages.now) }
+{
+    let mut steps = Steps::<L>::new(blank);
+    let mut updated = tree.share()?;
+    updated.update(pages, &mut steps)?;
+    Ok(updated)
 }

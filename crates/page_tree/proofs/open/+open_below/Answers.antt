@@ -1,46 +1,38 @@
-use Rattle.std.proofs.Common.{arith, ◌≡◌}
+use Rattle.std.proofs.Common.{arith, sym, ◌∙◌, ap, ap₂}
 use Rattle.std.proofs.lemmas.Result.{IfOk-weaker}
-use Rattle.part_tree.specs.Views.{part}
+use Rattle.page_core.specs.Stored.{stored_pages}
+use Rattle.part_tree.specs.Part.{branch, leaf, pruned}
 use Rattle.part_tree.proofs.Below.{sides_fit}
-use Rattle.page_tree.specs.Views.{grown_of}
-use Rattle.page_tree.proofs.Parts.{no_page, some_page, fork_high, open_none, open_stored, open_fork}
+use Rattle.page_tree.proofs.Parts.{no_page, some_page, part_none, part_leaf, part_branch}
 use Rattle.page_tree.proofs.open.+open_below.Goals as goal
 
 pub returns-then-is_empty : goal.returns-then-is_empty
-returns-then-is_empty g t c m =
-    open_none g.D.Digester.digest_of m c.args.height c.args.index (grown_of c.args.at.now) c.args.pages.now c.digest.result
-    (no_page c.args.pages.now c.is_empty.result c.is_empty.ensures c.if-is_empty.true) c.requires.grown c.digest.ensures
+returns-then-is_empty g t c =
+    ap pruned c.node_at.ensures
+    ∙ sym (part_none g.D.Digester.digest_of (stored_pages c.args.tree.now) c.args.height c.args.index c.args.pages.now (no_page c.args.pages.now c.is_empty.result c.is_empty.ensures c.if-is_empty.true))
+
+pub returns-then-height-eq0 : goal.returns-then-height-eq0
+returns-then-height-eq0 g t c =
+    let some = some_page c.args.pages.now c.is_empty.result c.is_empty.ensures c.if-is_empty.false in
+    IfOk-weaker c.leaf.result _ _
+    (λ tree made. made ∙ ap leaf c.bytes_of.ensures
+    ∙ sym (part_leaf g.D.Digester.digest_of (stored_pages c.args.tree.now) c.args.height c.args.index c.args.pages.now c.if-height-eq0.true some c.requires.below))
+    c.leaf.ensures
 
 pub open_below-requires-clause-fits : goal.open_below-requires-clause-fits
 open_below-requires-clause-fits g t c κs within =
-    let high = fork_high g.D.Digester.digest_of c.args.height c.in-Fork.field-0 (grown_of c.in-Fork.left.value) (grown_of c.in-Fork.right.value) (rw c.in-Fork.is at c.requires.grown) in
-    omega (arith, sides_fit c.args.height c.args.index high c.requires.low c.requires.fits)
+    omega (arith, sides_fit c.args.height c.args.index (omega arith) c.requires.low c.requires.fits)
 
-pub open_below-requires-in-Fork-clause-fits : goal.open_below-requires-in-Fork-clause-fits
-open_below-requires-in-Fork-clause-fits g t c κs within =
-    let high = fork_high g.D.Digester.digest_of c.args.height c.in-Fork.field-0 (grown_of c.in-Fork.left.value) (grown_of c.in-Fork.right.value) (rw c.in-Fork.is at c.requires.grown) in
-    sides_fit c.args.height c.args.index high c.requires.low c.requires.fits
+pub open_below-requires-2-clause-fits : goal.open_below-requires-2-clause-fits
+open_below-requires-2-clause-fits g t c κs within =
+    sides_fit c.args.height c.args.index (omega arith) c.requires.low c.requires.fits
 
-pub returns-in-Stored : goal.returns-in-Stored
-returns-in-Stored g t c =
-    let some = some_page c.args.pages.now c.is_empty.result c.is_empty.ensures c.if-is_empty.false in
-    let page = c.in-Stored.page.value in
-    let whole = rw c.in-Stored.is at c.requires.grown in
-    let same : c.bytes.result.now ≡ page = rw c.deref.ensures at c.bytes.ensures.value in
-    IfOk-weaker c.leaf.result _ _
-    (λ tree made m holds. open_stored g.D.Digester.digest_of m c.args.height c.args.index c.in-Stored.field-0 page c.bytes.result.now c.args.pages.now (part tree)
-    whole some c.requires.below same made (rw c.in-Stored.is at holds))
-    c.leaf.ensures
-
-pub returns-in_ok-right-in-Fork : goal.returns-in_ok-right-in-Fork
-returns-in_ok-right-in-Fork g t c =
+pub returns : goal.returns
+returns g t c =
     let some = some_page c.args.pages.now c.is_empty.result c.is_empty.ensures c.if-is_empty.false in
     let sides = c.sides_of.ensures in
-    let left = grown_of c.in-Fork.left.value in
-    let right = grown_of c.in-Fork.right.value in
-    let whole = rw c.in-Fork.is at c.requires.grown in
     IfOk-weaker c.branch-alloc.result _ _
-    (λ tree made m holds. open_fork g.D.Digester.digest_of m c.args.height c.args.index c.in-Fork.field-0 left right c.args.pages.now c.sides_of.result.0.now c.sides_of.result.1.now
-    (part c.in_ok-left-in-Fork.left) (part c.in_ok-right-in-Fork.right) (part tree) whole some c.requires.below sides.all sides.left sides.right
-    (rw c.deref-in-Fork.ensures at (c.in_ok-left-in-Fork.ensures m)) (rw c.deref-in-Fork-2.ensures at (c.in_ok-right-in-Fork.ensures m)) made (rw c.in-Fork.is at holds))
+    (λ tree made. made ∙ ap₂ branch c.in_ok-left.ensures c.in_ok-right.ensures
+    ∙ sym (part_branch g.D.Digester.digest_of (stored_pages c.args.tree.now) c.args.height c.args.index c.args.pages.now c.sides_of.result.0.now c.sides_of.result.1.now
+    (omega arith) some c.requires.below sides.all sides.left sides.right))
     c.branch-alloc.ensures

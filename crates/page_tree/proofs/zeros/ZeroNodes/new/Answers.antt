@@ -1,7 +1,7 @@
 use Rattle.std.proofs.Common.{◌<◌, length, arith}
 use Rattle.std.proofs.Math.ListN.{length-set, replicate}
 use Rattle.page_core.specs.Pages.{zero_page}
-use Rattle.page_tree.proofs.Gathered.{zero_first, zero_more}
+use Rattle.page_tree.proofs.Unstored.{zero_first, zero_more}
 use Rattle.page_tree.proofs.zeros.ZeroNodes.new.Goals as goal
 
 -- the first digest is that of a page of zeros

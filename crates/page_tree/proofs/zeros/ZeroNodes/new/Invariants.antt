@@ -1,5 +1,5 @@
 use Rattle.std.proofs.Common.{◌≡◌, ◌<◌, ◌≤◌, ℕ, get_or, [], length}
-use Rattle.page_tree.specs.Grown.{zero_node}
+use Rattle.page_tree.specs.Blocks.{zero_node}
 use Rattle.page_tree.proofs.zeros.ZeroNodes.new.Given as goal
 
 -- the digests of the heights so far are known

@@ -1,0 +1,4 @@
+use Rattle.page_tree.proofs.open.+open_below.Given as goal
+
+abbrev pub decreases-open_below : goal.decreases-open_below
+decreases-open_below g l = l.height
