@@ -1,5 +1,5 @@
 -- All that is hashed are bytes.
-use Rattle.std.proofs.Common.{◌≡◌, inl, inr, ℕ, zero, suc, ◌+◌, ◌*◌, ◌<◌, Bool, true, false, ◌&&◌, ltb, List, [], ◌∷◌, ◌++◌, length, map, ◌-◌, replicate, Option, Some, None, refl, sym, subst, arith}
+use Rattle.std.proofs.Common.{◌≡◌, inl, inr, ℕ, zero, suc, ◌+◌, ◌*◌, ◌<◌, Bool, true, false, ◌&&◌, ltb, List, [], ◌∷◌, ◌++◌, length, map, replicate, Option, Some, None, refl, sym, subst, arith}
 use Rattle.rv_step.proofs.Made.{full_pages, bytes_are}
 use Rattle.std.specs.Prelude.{Contains}
 use Rattle.std.specs.Int.{w16, w32, to_le_bytes}

@@ -1,5 +1,5 @@
 -- The bytes of an accepted bundle aren't refused. H is the digest function.
-use Rattle.std.proofs.Common.{◌≡◌, ◌≢◌, ℕ, ◌/◌, ◌%◌, List, [], ◌++◌, get_or, Option, Some, None, refl, sym, ap, subst, ◌∙◌, arith}
+use Rattle.std.proofs.Common.{◌≡◌, ◌≢◌, ℕ, ◌/◌, ◌%◌, List, [], ◌++◌, get_or, Some, None, refl, sym, ap, subst, ◌∙◌, arith}
 use Rattle.std.specs.Prelude.{option_map}
 use Rattle.std.proofs.lemmas.Option.{same_Some}
 use Rattle.claim_types.specs.States.{state_digest}
@@ -10,7 +10,6 @@ use Rattle.receipt_codec.specs.Reading.{BeginsVersion}
 use Rattle.receipt_codec.proofs.Wholes.{one_bundle}
 use Rattle.check_core.specs.declared.stop.CheckStop.{CheckStop}
 use Rattle.check_core.specs.declared.stop.CheckStop.TheVariants as Stop
-use Rattle.check_core.specs.Entries.{first_at}
 use Rattle.check_core.specs.Judgement.{Accepts, first_stop}
 use Rattle.check_core.specs.Checking.{Refuses}
 use Rattle.check_core.specs.Checked.{IsAccepted, IsOwnId, RefusesItself}

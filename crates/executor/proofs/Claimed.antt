@@ -29,7 +29,7 @@ pub stretches_replay : (H : List ℕ → List ℕ) → StretchesReplay H
 stretches_replay H s n exit z ready some ends = (replayed H s n exit z ready some ends).clean
 
 -- a run leaves the memory outside its footprints as it is
-run_leaves : (pages : List ℕ) (s : State) (n : ℕ) (z : State) → after s n ≡ Some z → ((k : ℕ) (v : State) → k < n → after s k ≡ Some v → Within (foot_of v) pages)
+pub run_leaves : (pages : List ℕ) (s : State) (n : ℕ) (z : State) → after s n ≡ Some z → ((k : ℕ) (v : State) → k < n → after s k ≡ Some v → Within (foot_of v) pages)
     → (a : ℕ) → ¬ Contains pages (a / 1024) → z.memory a ≡ s.memory a
 unfolding after
 run_leaves pages s zero z h shown a closed = ap (λ (u : State). u.memory a) (sym (same_Some s z h))

@@ -1,6 +1,6 @@
 -- Several steps more of the segment that is under way, each of which merely went on in pages that it had touched.
 use Rattle.std.proofs.Common.{◌≡◌, ◌⊎◌, inl, inr, ℕ, zero, suc, ◌+◌, ◌<◌, ◌≤◌, Bool, true, false, ◌||◌, eqb, List, ◌++◌, length, Some, None, IsTrue, refl, sym, ap, ap₂, ◌∙◌, arith, add-zero, append-nil, append_assoc}
-use Rattle.std.specs.Prelude.{is_some, Contains}
+use Rattle.std.specs.Prelude.{Contains}
 use Rattle.std.proofs.lemmas.List.Folds.{list_any-append}
 use Rattle.page_core.specs.Images.{Image}
 use Rattle.page_core.specs.Memory.{ascending, is_among}
@@ -17,7 +17,7 @@ use Rattle.executor.specs.Marked.{with_steps}
 use Rattle.executor.specs.Cutting.{Cutting, IsUnderWay, IsOver, CutsRun, IsCutting}
 use Rattle.executor.proofs.Ordered.{ascending_same}
 use Rattle.executor.proofs.Cutting.{done_at_from, done_in_from, fits_tells, fits_from}
-use Rattle.executor.proofs.UnderWay.{went_all, touched-suc, begun_any, some_not_none, none_told}
+use Rattle.executor.proofs.UnderWay.{went_all, touched-suc, some_not_none, none_told}
 
 -- ---- the steps of a run and then n more
 -- what they cost
@@ -60,7 +60,7 @@ ascending_there ps qs there =
 abbrev pub gone_on : Cutting → Going → ℕ → Metered → Cutting
 gone_on c g n m = record c { going = g; steps = c.steps + n; meter = m }
 
-module _ (c : Cutting) (g : Going) (n : ℕ) (m : Metered) (untold : c.outcome ≡ None) (on : c.going.halted ≡ None) (held : IsTrue (is_some c.beginning))
+module _ (c : Cutting) (g : Going) (n : ℕ) (m : Metered) (untold : c.outcome ≡ None) (on : c.going.halted ≡ None)
     (went : GoesQuickly (is_among c.meter.touched) (flat_state c.going) n (flat_state g)) (steps : g.steps ≡ c.going.steps + n) (cycles : g.cycles ≡ c.going.cycles + n)
     (halted : g.halted ≡ c.going.halted) (keeps : c.going.cycles + n ≤ c.limits.limit) (room : c.meter.cost + n ≤ c.limits.cycles) (meter : m ≡ with_steps n c.meter) where
   -- the last of them is done, and so all are
@@ -82,32 +82,24 @@ module _ (c : Cutting) (g : Going) (n : ℕ) (m : Metered) (untold : c.outcome �
   segment_gone_on : (image : Image) (words : List ℕ) → IsRunOf c.going image words → IsRunOf g image words
       → IsUnderWay (start image words) c ⊎ IsOver (start image words) c → IsUnderWay (start image words) (gone_on c g n m) ⊎ IsOver (start image words) (gone_on c g n m)
   segment_gone_on image words run after_run (inl u) =
-      let at : after u.s c.steps ≡ Some (flat_state c.going) =
-      sym (after-add (start image words) u.b c.steps u.s u.reached) ∙ ap (after (start image words)) (sym u.steps) ∙ went_all c.going image words run on in
-      let cost : run_cost u.s (c.steps + n) ≡ c.meter.cost + n =
-      run_cost-add u.s c.steps n (flat_state c.going) (flat_state g) at went.reached ∙ ap₂ (λ (a b : ℕ). a + b) (sym u.cost) went.cost in
-      let pages : ascending (run_pages u.s (c.steps + n)) ≡ c.meter.touched =
-      ap ascending (run_pages-add u.s c.steps n (flat_state c.going) (flat_state g) at went.reached)
-      ∙ ascending_there (run_pages u.s c.steps) (run_pages (flat_state c.going) n) (λ p h. ap (λ (ps : List ℕ). is_among ps p) (sym u.touched) ∙ went.within p h)
+      let at : after u.place.s c.steps ≡ Some (flat_state c.going) =
+      sym (after-add (start image words) u.place.b c.steps u.place.s u.place.reached) ∙ ap (after (start image words)) (sym u.steps) ∙ went_all c.going image words run on in
+      let cost : run_cost u.place.s (c.steps + n) ≡ c.meter.cost + n =
+      run_cost-add u.place.s c.steps n (flat_state c.going) (flat_state g) at went.reached ∙ ap₂ (λ (a b : ℕ). a + b) (sym u.cost) went.cost in
+      let pages : ascending (run_pages u.place.s (c.steps + n)) ≡ c.meter.touched =
+      ap ascending (run_pages-add u.place.s c.steps n (flat_state c.going) (flat_state g) at went.reached)
+      ∙ ascending_there (run_pages u.place.s c.steps) (run_pages (flat_state c.going) n) (λ p h. ap (λ (ps : List ℕ). is_among ps p) (sym u.touched) ∙ went.within p h)
       ∙ sym u.touched in
-      let few = (fits_tells c.limits u.s c.steps u.fits).1 in
+      let few = (fits_tells c.limits u.place.s c.steps u.fits).1 in
       inl (record {
-        b = u.b;
-        s = u.s;
-        reached = u.reached;
-        given = u.given;
-        cuts = u.cuts;
-        number = u.number;
-        at = u.at;
-        fewer = u.fewer;
+        place = u.place;
         steps = omega (arith, steps, u.steps);
         within = omega (arith, u.steps, all_done n refl image words after_run (omega (arith, u.within, u.steps)));
-        fits = fits_from c.limits u.s (c.steps + n) (omega (arith, cost, room)) (omega (arith, ap length pages, ap length u.touched, few));
+        fits = fits_from c.limits u.place.s (c.steps + n) (omega (arith, cost, room)) (omega (arith, ap length pages, ap length u.touched, few));
         beginning = u.beginning;
-        begun = begun_any (c.steps + n) c.beginning held;
         cost = ap (λ (x : Metered). x.cost) meter ∙ sym cost;
         touched = ap (λ (x : Metered). x.touched) meter ∙ sym pages;
-        outcome = none_told c.limits.limit (start image words) (u.b + (c.steps + n)) c.outcome untold;
+        outcome = none_told c.limits.limit (start image words) (u.place.b + (c.steps + n)) c.outcome untold;
       })
   segment_gone_on image words run after_run (inr over) = some_not_none over.outcome c.outcome over.told untold
 

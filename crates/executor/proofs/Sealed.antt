@@ -1,17 +1,20 @@
 -- The seal of a segment that is whole. H is the digest function.
-use Rattle.std.proofs.Common.{◌≡◌, ◌⊎◌, inl, inr, ℕ, zero, suc, ◌+◌, ◌-◌, ◌%◌, ◌^◌, ◌<◌, ◌≤◌, List, [], ◌∷◌, ◌++◌, length, take, drop, Option, Some, None, refl, sym, ap, ap₂, ◌∙◌, subst, arith, length-append, append-nil, append_assoc}
+use Rattle.std.proofs.Common.{◌≡◌, ◌≢◌, ◌⊎◌, inl, inr, ℕ, zero, suc, ◌+◌, ◌-◌, ◌/◌, ◌%◌, ◌^◌, ◌<◌, ◌≤◌, List, [], ◌∷◌, ◌++◌, length, take, drop, Option, Some, None, refl, sym, ap, ap₂, ◌∙◌, subst, arith, length-append, append-nil, append_assoc}
 use Rattle.std.specs.Prelude.{All, Contains}
 use Rattle.page_core.specs.Images.{Image}
 use Rattle.page_core.specs.Memory.{ascending}
 use Rattle.page_core.specs.Memories.{page_of}
-use Rattle.page_core.specs.Stored.{Stored, IsStoredFrom, stored_pages, memory_of}
-use Rattle.page_core.proofs.Bytes.{page_same, bytes_hold_pages}
+use Rattle.page_core.specs.Pages.{Pages, ArePages}
+use Rattle.page_core.specs.Stored.{Stored, stored_pages}
+use Rattle.page_core.proofs.Bytes.{page_same}
 use Rattle.page_core.proofs.Listed.{Contains-head, Contains-tail}
-use Rattle.page_core.proofs.Zeros.{pages_are}
-use Rattle.part_tree.specs.Part.{Part, part_of}
+use Rattle.digest_core.specs.Digests.{IsDigest}
+use Rattle.part_tree.specs.Part.{part_of}
 use Rattle.part_tree.specs.Canonical.{IsCanonical}
+use Rattle.part_tree.proofs.Formed.{canonical_form}
 use Rattle.page_tree.specs.Grown.{AscendFrom}
 use Rattle.page_tree.proofs.Parted.{same_part}
+use Rattle.rv_step.proofs.Full.{full-below}
 use Rattle.rv_step.specs.Machine.{State, Halted, step_of, full}
 use Rattle.rv_step.specs.Laws.{IsReady}
 use Rattle.rv_step.specs.Runs.{start, after, run_pages}
@@ -24,12 +27,15 @@ use Rattle.flat_machine.specs.Going.{Going, flat_state, went_steps_in, HaltsWith
 use Rattle.seal_replay.specs.Replay.{stop_of}
 use Rattle.executor.specs.Segments.{done_in, segments, lengths}
 use Rattle.executor.specs.Proving.{read_by, read_at, run_words, seal_from, seals_from, cut_seals, EndsAfter}
-use Rattle.executor.specs.Cutting.{Beginning, Cutting, IsBeginning, IsBegun, IsUnderWay, IsOver, CutsRun, IsLongest, IsWhole, IsCutting, IsCut}
+use Rattle.executor.specs.Cutting.{Cutting, seal_of, AreOpened, HoldsMemory, IsUnderWay, IsOver, CutsRun, IsLongest, IsWhole, IsCutting, IsCut}
 use Rattle.executor.proofs.Cutting.{run_ready, before_end, fits_tells, segments_some, item-seals_from}
 use Rattle.executor.proofs.Ordered.{ascending_some}
-use Rattle.page_core.proofs.Ascending.{Ascend, ascends, Contains-from_ascending}
+use Rattle.page_core.proofs.Ascending.{Ascend, ascends, Contains-ascending, Contains-from_ascending}
 use Rattle.executor.proofs.Limited.{used_few, steps_cost, touched_low, touched_registers}
-use Rattle.executor.proofs.Claimed.{stretches_replay}
+use Rattle.executor.proofs.Replays.{touched_in}
+use Rattle.executor.proofs.Claimed.{stretches_replay, run_leaves}
+use Rattle.executor.proofs.UnderWay.{went_all}
+use Rattle.executor.proofs.Changed.{all_below}
 use Rattle.executor.proofs.Forward.{run_words_are, halt_takes}
 
 -- ---- where a segment ends
@@ -98,11 +104,9 @@ words_read g image words run b n s reached left read is =
     let parts : g.read ≡ earlier ++ run_words s n = append-left g.read g.words (earlier ++ run_words s n) g.words all (omega (arith, sizes)) in
     ap₂ (λ (n : ℕ) (ws : List ℕ). drop n ws) is parts ∙ drop-append earlier (run_words s n)
 
--- the tree of a stored memory is that of the state whose bytes it has
-pub tree_of : (H : List ℕ → List ℕ) (t : Stored) (s : State) (pages : List ℕ) → IsStoredFrom 0 t → ((a : ℕ) → memory_of t a ≡ full s a) → part_of H (stored_pages t) pages 18 0 ≡ part_of H (page_of (full s)) pages 18 0
-tree_of H t s pages are same =
-    same_part H (page_of (full s)) (stored_pages t) pages 18 0
-    (λ page below. sym (bytes_hold_pages (stored_pages t) page (pages_are t 0 are)) ∙ page_same (memory_of t) (full s) page (λ a _. same a))
+-- the part trees of a tree are those of the state whose memory it holds
+pub tree_of : (H : List ℕ → List ℕ) (tree : Stored) (s : State) (pages : List ℕ) → HoldsMemory tree s → part_of H (stored_pages tree) pages 18 0 ≡ part_of H (page_of (full s)) pages 18 0
+tree_of H tree s pages holds = same_part H (page_of (full s)) (stored_pages tree) pages 18 0 (λ page below. holds page (omega (arith, below)))
 
 -- ---- the pages that it opens
 pub ascend_from : (least : ℕ) (ps : List ℕ) → Ascend least ps → ((p : ℕ) → Contains ps p → p < 262144) → AscendFrom least ps
@@ -112,29 +116,29 @@ ascend_from least (p ∷ ps) up low =
 
 -- ---- the lengths of the segments, this one among them
 pub cuts_here : (r : State) (c : Cutting) (u : IsUnderWay r c) → IsLongest r c u → 1 ≤ c.steps
-    → lengths c.limits r ≡ u.given ++ c.steps ∷ segments c.limits (done_in c.limits.limit r - c.number - 1) (after u.s c.steps) (done_in c.limits.limit r - u.b - c.steps)
+    → lengths c.limits r ≡ u.place.given ++ c.steps ∷ segments c.limits (done_in c.limits.limit r - c.number - 1) (after u.place.s c.steps) (done_in c.limits.limit r - u.place.b - c.steps)
 cuts_here r c u whole some =
-    let most : done_in c.limits.limit r - c.number ≡ suc (done_in c.limits.limit r - c.number - 1) = omega (arith, u.fewer, u.within, some) in
-    u.cuts
-    ∙ ap (λ (ns : List ℕ). u.given ++ ns)
-    (ap (λ (k : ℕ). segments c.limits k (Some u.s) (done_in c.limits.limit r - u.b)) most
-    ∙ segments_some c.limits (done_in c.limits.limit r - c.number - 1) u.s (done_in c.limits.limit r - u.b) (omega (arith, u.within, some))
-    ∙ ap (λ (n : ℕ). n ∷ segments c.limits (done_in c.limits.limit r - c.number - 1) (after u.s n) (done_in c.limits.limit r - u.b - n)) whole.longest)
+    let most : done_in c.limits.limit r - c.number ≡ suc (done_in c.limits.limit r - c.number - 1) = omega (arith, u.place.fewer, u.within, some) in
+    u.place.cuts
+    ∙ ap (λ (ns : List ℕ). u.place.given ++ ns)
+    (ap (λ (k : ℕ). segments c.limits k (Some u.place.s) (done_in c.limits.limit r - u.place.b)) most
+    ∙ segments_some c.limits (done_in c.limits.limit r - c.number - 1) u.place.s (done_in c.limits.limit r - u.place.b) (omega (arith, u.within, some))
+    ∙ ap (λ (n : ℕ). n ∷ segments c.limits (done_in c.limits.limit r - c.number - 1) (after u.place.s n) (done_in c.limits.limit r - u.place.b - n)) whole.longest)
 
 -- ---- the seal
-module _ (H : List ℕ → List ℕ) (c : Cutting) (at : Beginning) (held : c.beginning ≡ Some at) (some : 1 ≤ c.steps) (pc : ℕ) (words' : List ℕ) (tree : Part)
-    (pc_is : pc ≡ at.pc) (words_are : words' ≡ drop at.read c.going.read) (tree_is : tree ≡ part_of H (stored_pages at.tree) c.meter.touched 18 0) where
+module _ (H : List ℕ → List ℕ) (c : Cutting) (some : 1 ≤ c.steps) (pc : ℕ) (words' : List ℕ) (shared : Stored) (pages : List ℕ)
+    (pc_is : pc ≡ c.beginning.pc) (words_are : words' ≡ drop c.beginning.read c.going.read) (shared_is : shared ≡ c.beginning.tree) (pages_are : pages ≡ c.meter.touched) where
   abbrev pub made : Seal
-  made = record { pc = pc; steps = c.steps; words = words'; tree = tree }
+  made = seal_of H pc c.steps words' shared pages
 
-  seal_is : (image : Image) (words : List ℕ) → IsRunOf c.going image words → (u : IsUnderWay (start image words) c) → made ≡ seal_from H u.s c.steps
+  seal_is : (image : Image) (words : List ℕ) → IsRunOf c.going image words → (u : IsUnderWay (start image words) c) → made ≡ seal_from H u.place.s c.steps
   seal_is image words run u =
-      let begins : IsBeginning (start image words) u.b u.s (Some at) = subst (λ (o : Option Beginning). IsBeginning (start image words) u.b u.s o) held u.beginning in
-      let ends = ends_there c.going image words run u.b c.steps u.s u.reached u.steps some in
-      let one : pc ≡ u.s.pc = pc_is ∙ begins.0 in
-      let two : words' ≡ run_words u.s c.steps = words_are ∙ words_read c.going image words run u.b c.steps u.s u.reached ends.words_are at.read begins.1 in
-      let three : tree ≡ part_of H (page_of (full u.s)) (ascending (run_pages u.s c.steps)) 18 0 =
-      tree_is ∙ ap (λ (ps : List ℕ). part_of H (stored_pages at.tree) ps 18 0) u.touched ∙ tree_of H at.tree u.s (ascending (run_pages u.s c.steps)) begins.2 begins.3 in
+      let ends = ends_there c.going image words run u.place.b c.steps u.place.s u.place.reached u.steps some in
+      let one : pc ≡ u.place.s.pc = pc_is ∙ u.beginning.pc in
+      let two : words' ≡ run_words u.place.s c.steps = words_are ∙ words_read c.going image words run u.place.b c.steps u.place.s u.place.reached ends.words_are c.beginning.read u.beginning.read in
+      let three : part_of H (stored_pages shared) pages 18 0 ≡ part_of H (page_of (full u.place.s)) (ascending (run_pages u.place.s c.steps)) 18 0 =
+      ap₂ (λ (t : Stored) (ps : List ℕ). part_of H (stored_pages t) ps 18 0) shared_is (pages_are ∙ u.touched)
+      ∙ tree_of H c.beginning.tree u.place.s (ascending (run_pages u.place.s c.steps)) u.beginning.memory in
       λ i. record { pc = one i; steps = c.steps; words = two i; tree = three i }
 
   -- it is the one of the run's seals whose number comes next
@@ -144,79 +148,86 @@ module _ (H : List ℕ → List ℕ) (c : Cutting) (at : Beginning) (held : c.be
       go : (segment : IsUnderWay (start image words) c ⊎ IsOver (start image words) c) → IsWhole (start image words) c segment → item (cut_seals H c.limits (start image words)) c.number ≡ Some made
       go (inl u) whole =
           ap (λ (ns : List ℕ). item (seals_from H (Some (start image words)) ns) c.number) (cuts_here (start image words) c u whole some)
-          ∙ ap (item (seals_from H (Some (start image words)) (u.given ++ c.steps ∷ segments c.limits (done_in c.limits.limit (start image words) - c.number - 1) (after u.s c.steps) (done_in c.limits.limit (start image words) - u.b - c.steps)))) (sym u.number)
-          ∙ item-seals_from H (start image words) u.given c.steps _ u.s (ap (after (start image words)) u.at ∙ u.reached)
+          ∙ ap (item (seals_from H (Some (start image words)) (u.place.given ++ c.steps ∷ segments c.limits (done_in c.limits.limit (start image words) - c.number - 1) (after u.place.s c.steps) (done_in c.limits.limit (start image words) - u.place.b - c.steps)))) (sym u.place.number)
+          ∙ item-seals_from H (start image words) u.place.given c.steps _ u.place.s (ap (after (start image words)) u.place.at ∙ u.place.reached)
           ∙ ap Some (sym (seal_is image words stands.run u))
       go (inr over) whole = absurd (omega (arith, over.steps, some))
 
   -- it keeps the limits of a receipt, and replays without a stop
-  pub is_cut : IsCutting c → All (λ word. word < 2 ^ 32) words' → IsCanonical tree → IsCut (record { number = c.number; seal = made })
+  pub is_cut : IsCutting c → All (λ word. word < 2 ^ 32) words' → IsCanonical (part_of H (stored_pages shared) pages 18 0) → IsCut (record { number = c.number; seal = made })
   is_cut h small canonical = go h.stands.segment
     where
       go : IsUnderWay (start h.image h.words) c ⊎ IsOver (start h.image h.words) c → IsCut (record { number = c.number; seal = made })
       go (inl u) =
           let same = seal_is h.image h.words h.stands.run u in
-          let ends = ends_there c.going h.image h.words h.stands.run u.b c.steps u.s u.reached u.steps some in
-          let ready : IsReady u.s = run_ready (start h.image h.words) u.b u.s h.ready u.reached in
-          let begins : IsBeginning (start h.image h.words) u.b u.s (Some at) = subst (λ (o : Option Beginning). IsBeginning (start h.image h.words) u.b u.s o) held u.beginning in
-          let pc : pc ≡ u.s.pc = pc_is ∙ begins.0 in
-          let two : length words' ≡ length (run_words u.s c.steps) = ap (λ (seal : Seal). length seal.words) same in
-          let bounds = fits_tells c.limits u.s c.steps u.fits in
+          let ends = ends_there c.going h.image h.words h.stands.run u.place.b c.steps u.place.s u.place.reached u.steps some in
+          let ready : IsReady u.place.s = run_ready (start h.image h.words) u.place.b u.place.s h.ready u.place.reached in
+          let pc : pc ≡ u.place.s.pc = pc_is ∙ u.beginning.pc in
+          let two : length words' ≡ length (run_words u.place.s c.steps) = ap (λ (seal : Seal). length seal.words) same in
+          let bounds = fits_tells c.limits u.place.s c.steps u.fits in
           record {
             limits = record {
               numbers = record {
                 aligned = ap (λ (n : ℕ). n % 4) pc ∙ ready.aligned;
                 is_word = omega (arith, pc, ready.is_word);
                 some_steps = omega (arith, some);
-                few_steps = omega (arith, steps_cost u.s c.steps ends.each, bounds.0, h.limits.most_cycles);
-                few_words = omega (arith, two, used_few u.s c.steps, bounds.0, h.limits.most_cycles);
+                few_steps = omega (arith, steps_cost u.place.s c.steps ends.each, bounds.0, h.limits.most_cycles);
+                few_words = omega (arith, two, used_few u.place.s c.steps, bounds.0, h.limits.most_cycles);
               };
               are_words = small;
               tree = canonical;
             };
-            unstopped = ap stop_of same ∙ stretches_replay H u.s c.steps ends.exit ends.z ready (omega (arith, some)) ends.ends;
+            unstopped = ap stop_of same ∙ stretches_replay H u.place.s c.steps ends.exit ends.z ready (omega (arith, some)) ends.ends;
           }
       go (inr over) = absurd (omega (arith, over.steps, some))
-
--- the pages that it opens are 1 to 4,096 of the memory's, ascending
-pub record AreOpened (pages : List ℕ) : Type 0 where
-  pub some : 1 ≤ length pages
-  pub few : length pages ≤ 4096
-  pub ascending : AscendFrom 0 pages
 
 pub opened_pages : (c : Cutting) → IsCutting c → 1 ≤ c.steps → AreOpened c.meter.touched
 opened_pages c h some = go h.stands.segment
   where
     go : IsUnderWay (start h.image h.words) c ⊎ IsOver (start h.image h.words) c → AreOpened c.meter.touched
     go (inl u) =
-        let ready : IsReady u.s = run_ready (start h.image h.words) u.b u.s h.ready u.reached in
-        let bounds = fits_tells c.limits u.s c.steps u.fits in
-        let pages : List ℕ = run_pages u.s c.steps in
+        let ready : IsReady u.place.s = run_ready (start h.image h.words) u.place.b u.place.s h.ready u.place.reached in
+        let bounds = fits_tells c.limits u.place.s c.steps u.fits in
+        let pages : List ℕ = run_pages u.place.s c.steps in
         subst AreOpened (sym u.touched) (record {
-          some = ascending_some pages 262143 (touched_registers u.s c.steps (omega (arith, some)));
+          some = ascending_some pages 262143 (touched_registers u.place.s c.steps (omega (arith, some)));
           few = omega (arith, bounds.1, h.limits.most_pages);
-          ascending = ascend_from 0 (ascending pages) (ascends pages) (λ p e. touched_low u.s c.steps ready p (Contains-from_ascending pages p e));
+          ascending = ascend_from 0 (ascending pages) (ascends pages) (λ p e. touched_low u.place.s c.steps ready p (Contains-from_ascending pages p e));
         })
     go (inr over) = absurd (omega (arith, over.steps, some))
 
+-- so its part tree has its canonical form
+pub opened_canonical : (H : List ℕ → List ℕ) → ((x : List ℕ) → IsDigest (H x)) → (memory : Pages) → ArePages memory → (pages : List ℕ) → AreOpened pages → IsCanonical (part_of H memory pages 18 0)
+opened_canonical H is_digest memory are pages opened = canonical_form H memory pages is_digest are (all_below 0 pages opened.ascending) opened.some opened.few
+
 -- it begins where words were read
-pub read_within : (c : Cutting) → IsCutting c → (at : Beginning) → c.beginning ≡ Some at → 1 ≤ c.steps → at.read ≤ length c.going.read
-read_within c h at held some = go h.stands.segment
+pub read_within : (c : Cutting) → IsCutting c → 1 ≤ c.steps → c.beginning.read ≤ length c.going.read
+read_within c h some = go h.stands.segment
   where
-    go : IsUnderWay (start h.image h.words) c ⊎ IsOver (start h.image h.words) c → at.read ≤ length c.going.read
+    go : IsUnderWay (start h.image h.words) c ⊎ IsOver (start h.image h.words) c → c.beginning.read ≤ length c.going.read
     go (inl u) =
-        let begins : IsBeginning (start h.image h.words) u.b u.s (Some at) = subst (λ (o : Option Beginning). IsBeginning (start h.image h.words) u.b u.s o) held u.beginning in
-        let ends = ends_there c.going h.image h.words h.stands.run u.b c.steps u.s u.reached u.steps some in
-        let all : length c.going.read + length c.going.words ≡ length (run_words (start h.image h.words) u.b) + (length (run_words u.s c.steps) + length c.going.words) =
-        sym (length-append c.going.read c.going.words) ∙ ap length (h.stands.run.all ∙ run_words_are (start h.image h.words) u.b u.s u.reached ∙ ap (λ (ws : List ℕ). run_words (start h.image h.words) u.b ++ ws) ends.words_are)
-        ∙ length-append (run_words (start h.image h.words) u.b) (run_words u.s c.steps ++ c.going.words) ∙ ap (λ (n : ℕ). length (run_words (start h.image h.words) u.b) + n) (length-append (run_words u.s c.steps) c.going.words) in
-        omega (arith, begins.1, all)
+        let ends = ends_there c.going h.image h.words h.stands.run u.place.b c.steps u.place.s u.place.reached u.steps some in
+        let all : length c.going.read + length c.going.words ≡ length (run_words (start h.image h.words) u.place.b) + (length (run_words u.place.s c.steps) + length c.going.words) =
+        sym (length-append c.going.read c.going.words) ∙ ap length (h.stands.run.all ∙ run_words_are (start h.image h.words) u.place.b u.place.s u.place.reached ∙ ap (λ (ws : List ℕ). run_words (start h.image h.words) u.place.b ++ ws) ends.words_are)
+        ∙ length-append (run_words (start h.image h.words) u.place.b) (run_words u.place.s c.steps ++ c.going.words) ∙ ap (λ (n : ℕ). length (run_words (start h.image h.words) u.place.b) + n) (length-append (run_words u.place.s c.steps) c.going.words) in
+        omega (arith, u.beginning.read, all)
     go (inr over) = absurd (omega (arith, over.steps, some))
 
--- a segment with a step has its beginning
-pub has_beginning : (c : Cutting) → IsCutting c → 1 ≤ c.steps → c.beginning ≡ None → ⊥
-has_beginning c h some none = go h.stands.segment
+-- ---- the memory at its end
+-- a page that it didn't touch is as it was
+pub pages_left : (c : Cutting) → IsCutting c → 1 ≤ c.steps → c.outcome ≡ None → (page : ℕ) → page < 262144 → ¬ Contains c.meter.touched page → stored_pages c.beginning.tree page ≡ page_of (full (flat_state c.going)) page
+pages_left c h some untold page low away = go h.stands.segment
   where
-    go : IsUnderWay (start h.image h.words) c ⊎ IsOver (start h.image h.words) c → ⊥
-    go (inl u) = let zero_steps : c.steps ≡ 0 = subst (λ (o : Option Beginning). IsBegun c.steps o) none u.begun in omega (arith, zero_steps, some)
-    go (inr over) = omega (arith, over.steps, some)
+    go : IsUnderWay (start h.image h.words) c ⊎ IsOver (start h.image h.words) c → stored_pages c.beginning.tree page ≡ page_of (full (flat_state c.going)) page
+    go (inl u) =
+        let here : after u.place.s c.steps ≡ Some (flat_state c.going) =
+        sym (after-add (start h.image h.words) u.place.b c.steps u.place.s u.place.reached) ∙ ap (after (start h.image h.words)) (sym u.steps) ∙ went_all c.going h.image h.words h.stands.run (h.halted untold) in
+        let touched = λ (p : ℕ) (e : Contains (run_pages u.place.s c.steps) p). subst (λ (ps : List ℕ). Contains ps p) (sym u.touched) (Contains-ascending (run_pages u.place.s c.steps) p e) in
+        let other : page ≢ 262143 = λ same. away (subst (λ (p : ℕ). Contains c.meter.touched p) (sym same) (touched 262143 (touched_registers u.place.s c.steps (omega (arith, some))))) in
+        let left : (a : ℕ) → a / 1024 ≡ page → (flat_state c.going).memory a ≡ u.place.s.memory a =
+        λ a at. run_leaves c.meter.touched u.place.s c.steps (flat_state c.going) here (λ k v less e p f. touched p (touched_in u.place.s c.steps k v less e p f)) a
+        (λ f. away (subst (λ (p : ℕ). Contains c.meter.touched p) at f)) in
+        u.beginning.memory page low
+        ∙ page_same (full u.place.s) (full (flat_state c.going)) page
+        (λ a at. full-below u.place.s.memory u.place.s.x a (omega (arith, at, low, other)) ∙ sym (left a at) ∙ sym (full-below (flat_state c.going).memory c.going.x a (omega (arith, at, low, other))))
+    go (inr over) = absurd (omega (arith, over.steps, some))

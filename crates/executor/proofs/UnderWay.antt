@@ -1,17 +1,20 @@
 -- The segment that is under way, from one call to the next.
-use Rattle.std.proofs.Common.{◌≡◌, ◌⊎◌, inl, inr, ℕ, suc, ◌+◌, ◌-◌, ◌*◌, ◌<◌, ◌≤◌, Bool, true, false, leb, ltb, List, [], ◌++◌, length, Option, Some, None, IsTrue, refl, sym, ap, ap₂, ◌∙◌, subst, arith, length-append}
-use Rattle.std.proofs.lemmas.Option.{none-some, same_Some}
+use Rattle.std.proofs.Common.{◌≡◌, ◌⊎◌, inl, inr, ℕ, suc, ◌+◌, ◌-◌, ◌*◌, ◌<◌, ◌≤◌, Bool, true, false, leb, ltb, List, [], ◌++◌, length, Option, Some, None, refl, sym, ap, ap₂, ◌∙◌, subst, arith}
+use Rattle.std.proofs.lemmas.Option.{same_Some}
 use Rattle.std.proofs.lemmas.Bool.{true≢false}
 use Rattle.std.specs.Prelude.{is_some, replicate, ◌&&◌}
 use Rattle.page_core.specs.Images.{Image}
-use Rattle.page_core.specs.Memory.{ascending}
-use Rattle.page_core.specs.Stored.{IsStoredFrom, memory_of}
+use Rattle.page_core.specs.Memory.{top, ascending}
+use Rattle.page_core.specs.Stored.{IsStoredFrom, stored_pages, memory_of}
+use Rattle.page_core.proofs.Bytes.{page_same, bytes_hold_pages}
+use Rattle.page_core.proofs.Zeros.{pages_are}
 use Rattle.host_calls.specs.Meters.{Metered, with_step, has_room}
 use Rattle.rv_isa.specs.Registers.{AreRegisters}
 use Rattle.rv_step.specs.Machine.{State, Halted, step_of, foot_of, step_cost, full, first_closed}
 use Rattle.rv_step.specs.Laws.{IsReady}
 use Rattle.rv_step.specs.Runs.{start, after, run_cost, run_pages, pages_at, IsOutcome}
 use Rattle.rv_step.specs.declared.outcome.Outcome.{Outcome}
+use Rattle.rv_step.proofs.Full.{full-start}
 use Rattle.rv_step.proofs.Runs.{step_back, after-add, spent_next}
 use Rattle.seal_replay.proofs.Chains.{start_ready}
 use Rattle.flat_machine.proofs.RunFeet.{none_closed}
@@ -19,11 +22,10 @@ use Rattle.flat_machine.specs.Going.{Going, flat_state, went_steps, went_steps_i
 use Rattle.executor.specs.Segments.{Limits, is_fault, done_in, segment_fits, segments}
 use Rattle.executor.specs.Proving.{run_words}
 use Rattle.executor.specs.Laws.{AreLimits}
-use Rattle.executor.specs.Cutting.{Beginning, Cutting, IsBeginning, IsBegun, HasOutcome, IsUnderWay, IsOver, CutsRun, IsWhole, IsCutting, SameButBeginning}
+use Rattle.executor.specs.Cutting.{Beginning, Cutting, IsBeginning, HasOutcome, IsUnderWay, IsOver, CutsRun, IsWhole, IsCutting}
 use Rattle.executor.proofs.Ordered.{ascending_added}
 use Rattle.executor.proofs.Cutting.{run_ready, done_at_from, done_in_from, fits_none, fits_tells, spent_least, longest_is}
 use Rattle.executor.proofs.Covered.{one_fits, done_to_outcome}
-use Rattle.executor.proofs.Forward.{run_words_are}
 
 -- ---- where a run is
 -- where no step has halted, all went
@@ -31,26 +33,39 @@ pub went_all : (g : Going) (image : Image) (words : List ℕ) → IsRunOf g imag
 went_all g image words run on = ap (λ (o : Option ℕ). after (start image words) (went_steps_in g.steps o)) (sym on) ∙ run.reached
 
 -- ---- a beginning
-pub stands_new : (c : Cutting) (image : Image) (words : List ℕ) → IsRunOf c.going image words → c.going.steps ≡ 0 → c.number ≡ 0 → c.beginning ≡ None → c.steps ≡ 0
+-- the first segment begins where an image does, whose memory is zero from the register page on
+pub first_begins : (image : Image) (words : List ℕ) (at : Beginning) → ((a : ℕ) → top ≤ a → image.memory a ≡ 0) → at.pc ≡ image.entry → at.read ≡ 0
+    → IsStoredFrom 0 at.tree → memory_of at.tree ≡ image.memory → IsBeginning (start image words) 0 (start image words) at
+unfolding run_words
+first_begins image words at rest pc read are same = record {
+  pc = pc;
+  read = read;
+  memory = λ page low.
+      sym (bytes_hold_pages (stored_pages at.tree) page (pages_are at.tree 0 are))
+      ∙ page_same (memory_of at.tree) (full (start image words)) page (λ a _. ap (λ (m : ℕ → ℕ). m a) same ∙ sym (full-start image.memory rest a));
+}
+
+pub stands_new : (c : Cutting) (image : Image) (words : List ℕ) → IsRunOf c.going image words → c.going.steps ≡ 0 → c.number ≡ 0 → IsBeginning (start image words) 0 (start image words) c.beginning → c.steps ≡ 0
     → c.meter.cost ≡ 0 → c.meter.touched ≡ [] → c.outcome ≡ None → CutsRun c image words
 unfolding after run_cost run_pages ascending
 stands_new c image words run steps number beginning none cost pages outcome = record {
   run = run;
   segment = inl (record {
-    b = 0;
-    s = start image words;
-    reached = refl;
-    given = [];
-    cuts = ap (λ (n : ℕ). segments c.limits n (Some (start image words)) (done_in c.limits.limit (start image words))) (omega (arith, number))
-        ∙ ap (λ (n : ℕ). segments c.limits (done_in c.limits.limit (start image words) - c.number) (Some (start image words)) n) (omega arith);
-    number = sym number;
-    at = refl;
-    fewer = omega (arith, number);
+    place = record {
+      b = 0;
+      s = start image words;
+      reached = refl;
+      given = [];
+      cuts = ap (λ (n : ℕ). segments c.limits n (Some (start image words)) (done_in c.limits.limit (start image words))) (omega (arith, number))
+          ∙ ap (λ (n : ℕ). segments c.limits (done_in c.limits.limit (start image words) - c.number) (Some (start image words)) n) (omega arith);
+      number = sym number;
+      at = refl;
+      fewer = omega (arith, number);
+    };
     steps = omega (arith, steps, none);
     within = omega (arith, none);
     fits = ap (segment_fits c.limits (start image words)) none ∙ fits_none c.limits (start image words);
-    beginning = subst (λ (o : Option Beginning). IsBeginning (start image words) 0 (start image words) o) (sym beginning) tt;
-    begun = subst (λ (o : Option Beginning). IsBegun c.steps o) (sym beginning) none;
+    beginning = beginning;
     cost = cost ∙ ap (run_cost (start image words)) (sym none);
     touched = pages ∙ ap (λ (n : ℕ). ascending (run_pages (start image words) n)) (sym none);
     outcome = subst (λ (o : Option Outcome). HasOutcome c.limits.limit (start image words) (0 + c.steps) o) (sym outcome) tt;
@@ -84,19 +99,11 @@ cutting_new c image words ready stands steps most number limits cycles pages = r
 -- ---- the run alone is another value of the same steps
 going_moved : (c : Cutting) (g : Going) (r : State) → g.steps ≡ c.going.steps → IsUnderWay r c ⊎ IsOver r c → IsUnderWay r (record c { going = g }) ⊎ IsOver r (record c { going = g })
 going_moved c g r same (inl u) = inl (record {
-  b = u.b;
-  s = u.s;
-  reached = u.reached;
-  given = u.given;
-  cuts = u.cuts;
-  number = u.number;
-  at = u.at;
-  fewer = u.fewer;
+  place = u.place;
   steps = same ∙ u.steps;
   within = u.within;
   fits = u.fits;
   beginning = u.beginning;
-  begun = u.begun;
   cost = u.cost;
   touched = u.touched;
   outcome = u.outcome;
@@ -120,57 +127,6 @@ cutting_moved c g none run h = record {
   halted = λ e. none.halted ∙ h.halted e;
 }
 
--- ---- the beginning is held
-module _ (c : Cutting) (at : Beginning) (untold : c.outcome ≡ None) (on : c.going.halted ≡ None) (unheld : c.beginning ≡ None)
-    (pc : at.pc ≡ c.going.pc) (read : at.read ≡ length c.going.read) (stored : IsStoredFrom 0 at.tree) (memory : (a : ℕ) → memory_of at.tree a ≡ full (flat_state c.going) a)
-    (image : Image) (words : List ℕ) (run : IsRunOf c.going image words) where
-  held : IsUnderWay (start image words) c ⊎ IsOver (start image words) c → IsUnderWay (start image words) (record c { beginning = Some at }) ⊎ IsOver (start image words) (record c { beginning = Some at })
-  held (inl u) =
-      let none : c.steps ≡ 0 = subst (λ (o : Option Beginning). IsBegun c.steps o) unheld u.begun in
-      let first : c.going.steps ≡ u.b = omega (arith, u.steps, none) in
-      let here : flat_state c.going ≡ u.s = same_Some _ _ (sym (went_all c.going image words run on) ∙ ap (after (start image words)) first ∙ u.reached) in
-      let all : words ≡ run_words (start image words) u.b ++ u.s.words = run_words_are (start image words) u.b u.s u.reached in
-      let sizes : length c.going.read + length c.going.words ≡ length (run_words (start image words) u.b) + length u.s.words =
-      sym (length-append c.going.read c.going.words) ∙ ap length (run.all ∙ all) ∙ length-append (run_words (start image words) u.b) u.s.words in
-      let rest : length c.going.words ≡ length u.s.words = ap (λ (s : State). length s.words) here in
-      inl (record {
-        b = u.b;
-        s = u.s;
-        reached = u.reached;
-        given = u.given;
-        cuts = u.cuts;
-        number = u.number;
-        at = u.at;
-        fewer = u.fewer;
-        steps = u.steps;
-        within = u.within;
-        fits = u.fits;
-        beginning = (pc ∙ ap (λ (s : State). s.pc) here, omega (arith, read, sizes, rest), stored, λ a. memory a ∙ ap (λ (s : State). full s a) here);
-        begun = tt;
-        cost = u.cost;
-        touched = u.touched;
-        outcome = u.outcome;
-      })
-  held (inr o) = absurd (none-some o.outcome (sym untold ∙ o.told))
-
-  pub stands_begun : CutsRun c image words → CutsRun (record c { beginning = Some at }) image words
-  stands_begun stands = record { run = run; segment = held stands.segment }
-
-pub cutting_begun : (c : Cutting) (at : Beginning) → c.outcome ≡ None → c.beginning ≡ None → at.pc ≡ c.going.pc → at.read ≡ length c.going.read → IsStoredFrom 0 at.tree → ((a : ℕ) → memory_of at.tree a ≡ full (flat_state c.going) a)
-    → IsCutting c → IsCutting (record c { beginning = Some at })
-cutting_begun c at untold unheld pc read stored memory h = record {
-  image = h.image;
-  words = h.words;
-  ready = h.ready;
-  stands = stands_begun c at untold (h.halted untold) unheld pc read stored memory h.image h.words h.stands.run h.stands;
-  limits = h.limits;
-  cycles = h.cycles;
-  pages = h.pages;
-  number = h.number;
-  within = h.within;
-  halted = h.halted;
-}
-
 -- ---- one step more
 pub touched-suc : (s : State) (n : ℕ) (u : State) → after s n ≡ Some u → run_pages s (suc n) ≡ run_pages s n ++ foot_of u
 unfolding run_pages
@@ -191,10 +147,6 @@ room_fits l s n m u here cycles pages cost pages_are =
 -- an outcome's steps are all that are done
 pub has_outcome : (g : Going) (image : Image) (words : List ℕ) (limit : ℕ) (o : Outcome) → IsRunEnd g image words limit o → HasOutcome limit (start image words) g.steps (Some o)
 has_outcome g image words limit o ends = (ends.ends, ends.steps ∙ sym (done_to_outcome limit (start image words) o ends.ends))
-
-pub begun_any : (n : ℕ) (o : Option Beginning) → IsTrue (is_some o) → IsBegun n o
-begun_any n None h = absurd (cc)
-begun_any n (Some at) h = tt
 
 pub some_not_none : {A : Type 0} {B : Type 0} → (x : A) (o : Option A) → o ≡ Some x → o ≡ None → B
 some_not_none x o is none = absurd (cc)
@@ -225,34 +177,26 @@ module _ (g h : Going) (image : Image) (words : List ℕ) (limit : ℕ) (on : g.
 abbrev pub stepped : Cutting → Going → Metered → Option Outcome → Cutting
 stepped c g m o = record c { going = g; steps = c.steps + 1; meter = m; outcome = o }
 
-module _ (c : Cutting) (g : Going) (m : Metered) (o : Option Outcome) (untold : c.outcome ≡ None) (on : c.going.halted ≡ None) (held : IsTrue (is_some c.beginning)) (one : DoesOne c.going g) (keeps : g.cycles ≤ c.limits.limit)
+module _ (c : Cutting) (g : Going) (m : Metered) (o : Option Outcome) (untold : c.outcome ≡ None) (on : c.going.halted ≡ None) (one : DoesOne c.going g) (keeps : g.cycles ≤ c.limits.limit)
     (cycles : c.meter.cycles ≡ c.limits.cycles) (pages : c.meter.pages ≡ c.limits.pages) (foot : List ℕ) (cost : ℕ) (foot_is : foot ≡ foot_of (flat_state c.going)) (cost_is : cost ≡ step_cost (flat_state c.going))
     (room : has_room foot cost c.meter ≡ true) (meter : m ≡ with_step foot cost c.meter) where
   segment_stepped : (image : Image) (words : List ℕ) → IsRunOf c.going image words → IsRunOf g image words → HasOutcome c.limits.limit (start image words) g.steps o
       → IsUnderWay (start image words) c ⊎ IsOver (start image words) c → IsUnderWay (start image words) (stepped c g m o) ⊎ IsOver (start image words) (stepped c g m o)
   segment_stepped image words run after_run told (inl u) =
-      let at : after u.s c.steps ≡ Some (flat_state c.going) = sym (after-add (start image words) u.b c.steps u.s u.reached) ∙ ap (after (start image words)) (sym u.steps) ∙ went_all c.going image words run on in
+      let at : after u.place.s c.steps ≡ Some (flat_state c.going) = sym (after-add (start image words) u.place.b c.steps u.place.s u.place.reached) ∙ ap (after (start image words)) (sym u.steps) ∙ went_all c.going image words run on in
       let more : c.steps + 1 ≡ suc c.steps = omega arith in
-      let total : g.steps ≡ u.b + (c.steps + 1) = omega (arith, one.steps, u.steps) in
+      let total : g.steps ≡ u.place.b + (c.steps + 1) = omega (arith, one.steps, u.steps) in
       let done : c.going.steps < done_in c.limits.limit (start image words) = step_done c.going g image words c.limits.limit on run after_run one keeps in
       let fitting : has_room (foot_of (flat_state c.going)) (step_cost (flat_state c.going)) c.meter ≡ true = ap₂ (λ (f : List ℕ) (n : ℕ). has_room f n c.meter) (sym foot_is) (sym cost_is) ∙ room in
       let metered : m ≡ with_step (foot_of (flat_state c.going)) (step_cost (flat_state c.going)) c.meter = meter ∙ ap₂ (λ (f : List ℕ) (n : ℕ). with_step f n c.meter) foot_is cost_is in
       inl (record {
-        b = u.b;
-        s = u.s;
-        reached = u.reached;
-        given = u.given;
-        cuts = u.cuts;
-        number = u.number;
-        at = u.at;
-        fewer = u.fewer;
+        place = u.place;
         steps = total;
         within = omega (arith, done, u.steps);
-        fits = ap (segment_fits c.limits u.s) more ∙ room_fits c.limits u.s c.steps c.meter (flat_state c.going) at cycles pages u.cost u.touched ∙ fitting;
+        fits = ap (segment_fits c.limits u.place.s) more ∙ room_fits c.limits u.place.s c.steps c.meter (flat_state c.going) at cycles pages u.cost u.touched ∙ fitting;
         beginning = u.beginning;
-        begun = begun_any (c.steps + 1) c.beginning held;
-        cost = ap (λ (x : Metered). x.cost) metered ∙ ap (λ (n : ℕ). n + step_cost (flat_state c.going)) u.cost ∙ sym (spent_next u.s c.steps (flat_state c.going) at) ∙ ap (run_cost u.s) (sym more);
-        touched = ap (λ (x : Metered). x.touched) metered ∙ sym (ap (λ (n : ℕ). ascending (run_pages u.s n)) more ∙ touched_on u.s c.steps c.meter (flat_state c.going) at u.touched);
+        cost = ap (λ (x : Metered). x.cost) metered ∙ ap (λ (n : ℕ). n + step_cost (flat_state c.going)) u.cost ∙ sym (spent_next u.place.s c.steps (flat_state c.going) at) ∙ ap (run_cost u.place.s) (sym more);
+        touched = ap (λ (x : Metered). x.touched) metered ∙ sym (ap (λ (n : ℕ). ascending (run_pages u.place.s n)) more ∙ touched_on u.place.s c.steps c.meter (flat_state c.going) at u.touched);
         outcome = subst (λ (n : ℕ). HasOutcome c.limits.limit (start image words) n o) total told;
       })
   segment_stepped image words run after_run told (inr over) = some_not_none over.outcome c.outcome over.told untold
@@ -283,19 +227,11 @@ ended c g o = record c { going = g; outcome = Some o }
 module _ (c : Cutting) (g : Going) (o : Outcome) (untold : c.outcome ≡ None) (none : DoesNone c.going g) where
   segment_ended : (r : State) → HasOutcome c.limits.limit r g.steps (Some o) → IsUnderWay r c ⊎ IsOver r c → IsUnderWay r (ended c g o) ⊎ IsOver r (ended c g o)
   segment_ended r told (inl u) = inl (record {
-    b = u.b;
-    s = u.s;
-    reached = u.reached;
-    given = u.given;
-    cuts = u.cuts;
-    number = u.number;
-    at = u.at;
-    fewer = u.fewer;
+    place = u.place;
     steps = none.steps ∙ u.steps;
     within = u.within;
     fits = u.fits;
     beginning = u.beginning;
-    begun = u.begun;
     cost = u.cost;
     touched = u.touched;
     outcome = subst (λ (n : ℕ). HasOutcome c.limits.limit r n (Some o)) (none.steps ∙ u.steps) told;
@@ -324,10 +260,10 @@ module _ (c : Cutting) (g : Going) (o : Outcome) (untold : c.outcome ≡ None) (
 -- where the run's outcome is known
 pub whole_ended : (r : State) (c : Cutting) (o : Outcome) → c.outcome ≡ Some o → (segment : IsUnderWay r c ⊎ IsOver r c) → IsWhole r c segment
 whole_ended r c o told (inl u) =
-    let all : IsOutcome r c.limits.limit o × (u.b + c.steps ≡ done_in c.limits.limit r) = subst (λ (t : Option Outcome). HasOutcome c.limits.limit r (u.b + c.steps) t) told u.outcome in
-    let rest : c.steps ≡ done_in c.limits.limit r - u.b = omega (arith, all.1) in
+    let all : IsOutcome r c.limits.limit o × (u.place.b + c.steps ≡ done_in c.limits.limit r) = subst (λ (t : Option Outcome). HasOutcome c.limits.limit r (u.place.b + c.steps) t) told u.outcome in
+    let rest : c.steps ≡ done_in c.limits.limit r - u.place.b = omega (arith, all.1) in
     record {
-      longest = longest_is c.limits u.s c.steps (done_in c.limits.limit r - u.b) u.fits (omega (arith, rest)) (inl rest);
+      longest = longest_is c.limits u.place.s c.steps (done_in c.limits.limit r - u.place.b) u.fits (omega (arith, rest)) (inl rest);
       ended = λ _. ap is_some told;
     }
 whole_ended r c o told (inr over) = tt
@@ -340,15 +276,15 @@ begins_here s t n none at = same_Some s t (ap (after s) (sym none) ∙ at)
 pub whole_full : (c : Cutting) → IsCutting c → c.outcome ≡ None → has_room (foot_of (flat_state c.going)) (step_cost (flat_state c.going)) c.meter ≡ false
     → (image : Image) (words : List ℕ) → (run : IsRunOf c.going image words) → (segment : IsUnderWay (start image words) c ⊎ IsOver (start image words) c) → IsWhole (start image words) c segment
 whole_full c h untold room image words run (inl u) =
-    let at : after u.s c.steps ≡ Some (flat_state c.going) =
-    sym (after-add (start image words) u.b c.steps u.s u.reached) ∙ ap (after (start image words)) (sym u.steps) ∙ went_all c.going image words run (h.halted untold) in
-    let over : segment_fits c.limits u.s (suc c.steps) ≡ false = room_fits c.limits u.s c.steps c.meter (flat_state c.going) at h.cycles h.pages u.cost u.touched ∙ room in
+    let at : after u.place.s c.steps ≡ Some (flat_state c.going) =
+    sym (after-add (start image words) u.place.b c.steps u.place.s u.place.reached) ∙ ap (after (start image words)) (sym u.steps) ∙ went_all c.going image words run (h.halted untold) in
+    let over : segment_fits c.limits u.place.s (suc c.steps) ≡ false = room_fits c.limits u.place.s c.steps c.meter (flat_state c.going) at h.cycles h.pages u.cost u.touched ∙ room in
     let ready : IsReady (flat_state c.going) = run_ready (start h.image h.words) (went_steps c.going) (flat_state c.going) h.ready h.stands.run.reached in
     let one : segment_fits c.limits (flat_state c.going) 1 ≡ true = one_fits c.limits (flat_state c.going) h.limits ready.aligned in
     record {
-      longest = longest_is c.limits u.s c.steps (done_in c.limits.limit (start image words) - u.b) u.fits (omega (arith, u.within)) (inr over);
+      longest = longest_is c.limits u.place.s c.steps (done_in c.limits.limit (start image words) - u.place.b) u.fits (omega (arith, u.within)) (inr over);
       ended = λ none.
-          absurd (true≢false (sym one ∙ ap (λ (s : State). segment_fits c.limits s 1) (sym (begins_here u.s (flat_state c.going) c.steps none at)) ∙ ap (λ (n : ℕ). segment_fits c.limits u.s (suc n)) (sym none) ∙ over));
+          absurd (true≢false (sym one ∙ ap (λ (s : State). segment_fits c.limits s 1) (sym (begins_here u.place.s (flat_state c.going) c.steps none at)) ∙ ap (λ (n : ℕ). segment_fits c.limits u.place.s (suc n)) (sym none) ∙ over));
     }
 whole_full c h untold room image words run (inr over) = some_not_none over.outcome c.outcome over.told untold
 
@@ -363,9 +299,9 @@ few_steps c h untold = go h.stands.segment
   where
     go : IsUnderWay (start h.image h.words) c ⊎ IsOver (start h.image h.words) c → c.steps ≤ 16777216
     go (inl u) =
-        let at : after u.s c.steps ≡ Some (flat_state c.going) =
-        sym (after-add (start h.image h.words) u.b c.steps u.s u.reached) ∙ ap (after (start h.image h.words)) (sym u.steps) ∙ went_all c.going h.image h.words h.stands.run (h.halted untold) in
-        omega (arith, spent_least u.s c.steps (flat_state c.going) at, (fits_tells c.limits u.s c.steps u.fits).0, h.limits.most_cycles)
+        let at : after u.place.s c.steps ≡ Some (flat_state c.going) =
+        sym (after-add (start h.image h.words) u.place.b c.steps u.place.s u.place.reached) ∙ ap (after (start h.image h.words)) (sym u.steps) ∙ went_all c.going h.image h.words h.stands.run (h.halted untold) in
+        omega (arith, spent_least u.place.s c.steps (flat_state c.going) at, (fits_tells c.limits u.place.s c.steps u.fits).0, h.limits.most_cycles)
     go (inr over) = some_not_none over.outcome c.outcome over.told untold
 
 -- the pages of the next step are those of a memory
@@ -375,11 +311,10 @@ foot_within c h foot is =
     ∙ none_closed (flat_state c.going) (run_ready (start h.image h.words) (went_steps c.going) (flat_state c.going) h.ready h.stands.run.reached).aligned
 
 -- ---- an executor before a step that fits
--- its beginning is held, and this is what the step touches and costs
+-- this is what the step touches and costs
 pub record IsBefore (c : Cutting) (foot : List ℕ) (cost : ℕ) : Type 0 where
   pub untold : c.outcome ≡ None
   pub on : c.going.halted ≡ None
-  pub held : IsTrue (is_some c.beginning)
   pub cutting : IsCutting c
   pub foot_is : foot ≡ foot_of (flat_state c.going)
   pub cost_is : cost ≡ step_cost (flat_state c.going)
@@ -388,34 +323,21 @@ pub record IsBefore (c : Cutting) (foot : List ℕ) (cost : ℕ) : Type 0 where
 abbrev pub with_meter : Cutting → Metered → Cutting
 with_meter c m = record c { meter = m }
 
--- it is that of the call's begin, but for the beginning, and for the room of the meter
-module _ (i old j mid : Cutting) (m : Metered) (is_old : i ≡ old) (is_mid : j ≡ mid) (same : SameButBeginning old mid) (metered : m ≡ j.meter) where
-  going_is : j.going ≡ i.going
-  going_is = ap (λ (x : Cutting). x.going) is_mid ∙ same.going ∙ ap (λ (x : Cutting). x.going) (sym is_old)
+-- but for the room of its meter it is that of before
+pub before : (c : Cutting) (m : Metered) (foot : List ℕ) (cost : ℕ) → m ≡ c.meter → IsCutting c → c.outcome ≡ None → foot ≡ foot_of (flat_state c.going) → cost ≡ step_cost (flat_state c.going)
+    → has_room foot cost c.meter ≡ true → IsBefore (with_meter c m) foot cost
+before c m foot cost same h untold foot_is cost_is room = record {
+  untold = untold;
+  on = h.halted untold;
+  cutting = subst (λ (x : Metered). IsCutting (with_meter c x)) (sym same) h;
+  foot_is = foot_is;
+  cost_is = cost_is;
+  room = ap (has_room foot cost) same ∙ room;
+}
 
-  meter_is : m ≡ i.meter
-  meter_is = metered ∙ ap (λ (x : Cutting). x.meter) is_mid ∙ same.meter ∙ ap (λ (x : Cutting). x.meter) (sym is_old)
-
-  outcome_is : j.outcome ≡ i.outcome
-  outcome_is = ap (λ (x : Cutting). x.outcome) is_mid ∙ same.outcome ∙ ap (λ (x : Cutting). x.outcome) (sym is_old)
-
-  pub before : (foot : List ℕ) (cost : ℕ) → IsTrue (is_some mid.beginning) → IsCutting j → i.outcome ≡ None → foot ≡ foot_of (flat_state i.going) → cost ≡ step_cost (flat_state i.going) → has_room foot cost i.meter ≡ true
-      → IsBefore (with_meter j m) foot cost
-  before foot cost held h none foot_is cost_is room =
-      let untold : j.outcome ≡ None = outcome_is ∙ none in
-      record {
-        untold = untold;
-        on = h.halted untold;
-        held = ap (λ (x : Cutting). is_some x.beginning) is_mid ∙ held;
-        cutting = subst (λ (x : Metered). IsCutting (with_meter j x)) (sym metered) h;
-        foot_is = foot_is ∙ ap (λ (x : Going). foot_of (flat_state x)) (sym going_is);
-        cost_is = cost_is ∙ ap (λ (x : Going). step_cost (flat_state x)) (sym going_is);
-        room = ap (has_room foot cost) meter_is ∙ room;
-      }
-
-  pub stands_before : (image : Image) (words : List ℕ) → CutsRun mid image words → CutsRun (with_meter j m) image words
-  stands_before image words stands =
-      subst (λ (x : Metered). CutsRun (with_meter j x) image words) (sym metered) (subst (λ (x : Cutting). CutsRun x image words) (sym is_mid) stands)
+pub stands_before : (c now : Cutting) (m : Metered) → c ≡ now → m ≡ c.meter → (image : Image) (words : List ℕ) → CutsRun now image words → CutsRun (with_meter c m) image words
+stands_before c now m is same image words stands =
+    subst (λ (x : Metered). CutsRun (with_meter c x) image words) (sym same) (subst (λ (x : Cutting). CutsRun x image words) (sym is) stands)
 
 -- the state of a run is told by no outcome
 pub none_told : (limit : ℕ) (r : State) (n : ℕ) (o : Option Outcome) → o ≡ None → HasOutcome limit r n o

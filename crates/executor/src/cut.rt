@@ -1,23 +1,26 @@
-ghost use Rattle.std.specs.Prelude.{◌≡◌, IfOk};
-ghost use Rattle.part_tree.specs.Views.{part};
+ghost use Rattle.std.specs.Prelude.{◌≡◌, ◌^◌, ◌<◌, All, IfOk};
 ghost use Rattle.executor.specs.Cutting.{IsCut};
 
 use byte_cursor::WordList;
 use digest_core::Digester;
-use page_core::Page;
-use part_tree::PartTree;
+use page_tree::PageTree;
 use receipt_types::Seal;
 use std::alloc::{AllocError, Global};
-use std::marker::{Model, PhantomData};
+use std::marker::Model;
 
 /// A segment of a run: its number, and its seal, which keeps the limits of a receipt and replays without a stop.
-/// Contracts see both.
+/// Contracts see both. It shares the tree of the memory at its beginning with the run; the seal's tree is made where it is
+/// asked for.
 #[derive(Drop)]
 pub struct Cut<D: Digester> {
-    number: u32,
-    seal: Seal,
-    alloc: Global,
-    digester: PhantomData<D>,
+    pub(crate) number: u32,
+    pub(crate) pc: u32,
+    pub(crate) steps: u32,
+    pub(crate) words: WordList,
+    // those that its steps touch, ascending, each once
+    pub(crate) pages: WordList,
+    pub(crate) tree: PageTree<D>,
+    pub(crate) alloc: Global,
 }
 
 impl<D: Digester> Model for Cut<D> {
@@ -27,40 +30,32 @@ impl<D: Digester> Model for Cut<D> {
 
     ghost coded = { plain.cut_code };
 
-    ghost view = { λ c. record { number = c.number; seal = c.seal } };
+    ghost view = { λ c.
+        record {
+          number = c.number;
+          seal = plain.seal_of D.digest_of c.pc c.steps c.words.items c.tree c.pages.items;
+        } };
 
-    ghost invariant = { λ c. plain.IsCut (record { number = c.number; seal = c.seal }) };
+    ghost invariant = { λ c.
+        plain.IsCut
+        (record {
+          number = c.number;
+          seal = plain.seal_of D.digest_of c.pc c.steps c.words.items c.tree c.pages.items;
+        })
+        × plain.AreOpened c.pages.items };
 }
 
-// A copy of a tree.
-fn copy_tree(alloc: Global, tree: &PartTree) -> Result<PartTree, AllocError>
-    ensures { IfOk result (λ copy. part copy ≡ part tree.now) }
+// A list of these words.
+pub(crate) fn copied(alloc: Global, words: &[u32]) -> Result<WordList, AllocError>
+    ensures items { IfOk result (λ list. list.items ≡ words.now) }
+    ensures are_words { IfOk result (λ list. All (λ word. word < 2 ^ 32) list.items) }
 {
-    match tree {
-        PartTree::Pruned(digest) => Ok(PartTree::Pruned(*digest)),
-        PartTree::Branch(left, right) => {
-            let left = Box::new(alloc, copy_tree(alloc, left)?)?;
-            let right = Box::new(alloc, copy_tree(alloc, right)?)?;
-            Ok(PartTree::Branch(left, right))
-        }
-        PartTree::Leaf(page) => Ok(PartTree::Leaf(Box::new(alloc, Page::of(page.bytes()))?)),
-    }
+    let mut list = WordList::new(alloc);
+    list.extend(words)?;
+    Ok(list)
 }
 
 impl<D: Digester> Cut<D> {
-    // A cut with this seal.
-    pub(crate) fn of(alloc: Global, number: u32, seal: Seal) -> Cut<D>
-        requires { IsCut (record { number = number; seal = seal }) }
-        ensures { result ≡ record { number = number; seal = seal } }
-    {
-        Cut {
-            number,
-            seal,
-            alloc,
-            digester: PhantomData,
-        }
-    }
-
     /// The number of its segment; a run's segments are numbered from 0. It takes no memory.
     pub fn number(&self) -> u32
         ensures { result ≡ self.now.number }
@@ -73,13 +68,13 @@ impl<D: Digester> Cut<D> {
         ensures seal { IfOk result (λ seal. seal ≡ self.now.seal) }
         ensures is_cut { IsCut self.now }
     {
-        let mut words = WordList::new(self.alloc);
-        words.extend(self.seal.words.as_slice())?;
+        let words = copied(self.alloc, self.words.as_slice())?;
+        let tree = self.tree.open(self.pages.as_slice())?;
         Ok(Seal {
-            pc: self.seal.pc,
-            steps: self.seal.steps,
+            pc: self.pc,
+            steps: self.steps,
             words,
-            tree: copy_tree(self.alloc, &self.seal.tree)?,
+            tree,
         })
     }
 }

@@ -1,14 +1,16 @@
-ghost use Rattle.std.specs.Prelude.{◌≡◌, ◌^◌, ◌<◌, ◌≤◌, ℕ, List, All, IsTrue, IsFalse, is_some, Some, None, IfOk, OnOk, OnErr};
+ghost use Rattle.std.specs.Prelude.{◌≡◌, ◌+◌, ◌<◌, ◌≤◌, ℕ, List, IsTrue, IsFalse, Some, IfOk, OnOk, OnErr};
 ghost use Rattle.std.specs.Arc.{arc_value};
 ghost use Rattle.page_core.specs.Images.{Image as PlainImage};
 ghost use Rattle.elf_image.specs.Loaded.{image_of};
 ghost use Rattle.rv_step.specs.Runs.{start};
 ghost use Rattle.receipt_types.specs.Bundles.{item};
 ghost use Rattle.executor.specs.Proving.{cut_seals};
-ghost use Rattle.executor.specs.Cutting.{CutsRun, IsWhole, SameButBeginning};
+ghost use Rattle.executor.specs.Cutting.{CutsRun, IsWhole};
 ghost use Rattle.executor.specs.Giving.{Gives};
+ghost use Rattle.receipt_types.specs.declared.sizes.TheConstants.{MOST_SEALS};
 
-use crate::cut::Cut;
+use crate::beginning::Beginning;
+use crate::cut::{Cut, copied};
 use crate::limits::Limits;
 use crate::segment_meter::SegmentMeter;
 use byte_cursor::WordList;
@@ -16,11 +18,12 @@ use digest_core::Digester;
 use elf_image::Image;
 use flat_machine::Flat;
 use page_tree::PageTree;
-use receipt_types::{MOST_SEALS, Seal};
+use receipt_types::MOST_SEALS;
 use rv_step::Outcome;
 use std::alloc::{AllocError, Global};
-use std::marker::Model;
+use std::marker::{Brand, Model};
 use std::sync::Arc;
+use std::sync::ledger::{Blank, Ledger};
 
 /// What an executor gives next.
 #[derive(Drop)]
@@ -33,22 +36,6 @@ pub enum Next<D: Digester> {
     TooManySeals,
 }
 
-// Where a segment begins: its pc, how many words were read before, and its memory with the registers.
-#[derive(Drop)]
-struct Beginning<D: Digester> {
-    pc: u32,
-    read: usize,
-    tree: PageTree<D>,
-}
-
-impl<D: Digester> Model for Beginning<D> {
-    ghost use Rattle.executor.specs.Cutting as plain;
-
-    ghost Value = { plain.Beginning };
-
-    ghost view = { λ b. record { pc = b.pc; read = b.read; tree = b.tree } };
-}
-
 /// The run of an image and input words under limits, and how far it is cut. Contracts see the run, the limits, how many
 /// cuts were given, and the segment that is under way; `CutsRun` says that these are the cuts of the run of an image and
 /// words.
@@ -59,7 +46,7 @@ pub struct Executor<D: Digester> {
     flat: Flat,
     limits: Limits,
     number: u32,
-    beginning: Option<Beginning<D>>,
+    beginning: Beginning<D>,
     steps: u32,
     meter: SegmentMeter,
     outcome: Option<Outcome>,
@@ -95,16 +82,6 @@ impl<D: Digester> Model for Executor<D> {
         }) };
 }
 
-// A list of these words.
-fn copied(alloc: Global, words: &[u32]) -> Result<WordList, AllocError>
-    ensures items { IfOk result (λ list. list.items ≡ words.now) }
-    ensures are_words { IfOk result (λ list. All (λ word. word < 2 ^ 32) list.items) }
-{
-    let mut list = WordList::new(alloc);
-    list.extend(words)?;
-    Ok(list)
-}
-
 impl<D: Digester> Executor<D> {
     /// The run of an image and input words under limits, of which nothing is cut yet. An AllocError is want of memory.
     pub fn new(
@@ -117,13 +94,18 @@ impl<D: Digester> Executor<D> {
         ensures limits { IfOk result (λ executor. executor.limits ≡ limits) }
         ensures stands { IfOk result (λ executor. CutsRun executor (image_of image) words.items) }
     {
+        let beginning = Beginning {
+            pc: image.entry,
+            read: 0,
+            tree: PageTree::from_map(alloc, &image.map)?,
+        };
         let mut flat = Flat::new(alloc, image, words);
         flat.lift()?;
         Ok(Executor {
             flat,
             limits,
             number: 0,
-            beginning: None,
+            beginning,
             steps: 0,
             meter: SegmentMeter::new(alloc, limits.cycles(), limits.pages())?,
             outcome: None,
@@ -154,11 +136,7 @@ impl<D: Digester> Executor<D> {
             return Ok(Next::TooManySeals);
         }
         let cut = self.cut()?;
-        // first, since it may be refused, and then the cut is made again
-        self.meter.clear()?;
-        self.number += 1;
-        self.beginning = None;
-        self.steps = 0;
+        self.turn::<Brand>(Blank::new(1))?;
         Ok(Next::Cut(cut))
     }
 
@@ -189,7 +167,7 @@ impl<D: Digester> Executor<D> {
         ensures same { (self.new.limits ≡ self.old.limits) × (self.new.number ≡ self.old.number) }
         ensures more { self.old.going.cycles ≤ self.new.going.cycles }
     {
-        if self.outcome.is_some() || self.beginning.is_none() {
+        if self.outcome.is_some() {
             return;
         }
         let left = self.limits.limit() - self.flat.cycles();
@@ -222,7 +200,6 @@ impl<D: Digester> Executor<D> {
         if !self.meter.fits(&looked.foot, looked.cost) {
             return Ok(false);
         }
-        self.begin()?;
         self.meter.reserve()?;
         match self.flat.step(self.limits.limit())? {
             None => {
@@ -247,23 +224,35 @@ impl<D: Digester> Executor<D> {
         }
     }
 
-    // Holds the beginning of the segment, if it isn't held yet: then no step of it was done.
-    fn begin(&mut self) -> Result<(), AllocError>
-        requires { self.old.outcome ≡ None }
+    // Goes over to the next segment, once the one that is under way is cut. It begins where the run is; where the run has
+    // an outcome there is no next one.
+    fn turn<L: Ledger>(&mut self, blank: Blank) -> Result<(), AllocError>
+        requires some { 1 ≤ self.old.steps }
+        requires few { self.old.number < MOST_SEALS }
+        requires whole { (image : PlainImage) (words : List ℕ) →
+            (stands : CutsRun self.old image words) → IsWhole (start image
+            words) self.old stands.segment }
+        requires name { blank.name ≡ L.name }
+        requires parts { blank.parts ≡ L.parts }
+        requires shared { 0 < L.parts }
         ensures stands { (image : PlainImage) (words : List ℕ) → CutsRun self.old image words →
             CutsRun self.new image words }
-        ensures same { SameButBeginning self.old self.new }
-        ensures begun { OnOk result (IsTrue (is_some self.new.beginning)) }
+        ensures limits { self.new.limits ≡ self.old.limits }
+        ensures turned { OnOk result (self.new.number ≡ self.old.number + 1) }
+        ensures refused { OnErr result (self.new.number ≡ self.old.number) }
     {
-        if self.beginning.is_some() {
+        if self.outcome.is_some() {
+            self.number += 1;
+            self.steps = 0;
             return Ok(());
         }
-        let full = self.flat.full()?;
-        self.beginning = Some(Beginning {
-            pc: self.flat.pc(),
-            read: self.flat.read().len(),
-            tree: PageTree::from_map(self.alloc, &full)?,
-        });
+        let beginning = self
+            .beginning
+            .next::<L>(self.alloc, &self.flat, self.meter.pages(), blank)?;
+        self.meter.clear()?;
+        self.beginning = beginning;
+        self.number += 1;
+        self.steps = 0;
         Ok(())
     }
 
@@ -279,18 +268,18 @@ impl<D: Digester> Executor<D> {
             item (cut_seals D.digest_of self.now.limits
             (start image words)) self.now.number ≡ Some (arc_value cut).seal) }
     {
-        let Some(beginning) = &self.beginning else {
-            unreachable!();
-        };
+        let beginning = &self.beginning;
         let (_, taken) = self.flat.read().split_at(beginning.read);
-        let words = copied(self.alloc, taken)?;
-        let seal = Seal {
+        let cut = Cut {
+            number: self.number,
             pc: beginning.pc,
             steps: self.steps,
-            words,
-            tree: beginning.tree.open(self.meter.pages())?,
+            words: copied(self.alloc, taken)?,
+            pages: copied(self.alloc, self.meter.pages())?,
+            tree: beginning.tree.share()?,
+            alloc: self.alloc,
         };
-        match Arc::new(self.alloc, Cut::of(self.alloc, self.number, seal)) {
+        match Arc::new(self.alloc, cut) {
             Ok(cut) => Ok(cut),
             Err(_) => Err(AllocError),
         }

@@ -1,6 +1,7 @@
 //! The run of a guest cut into segments, each with the seal that a check replays.
 #![tactic(auto)]
 
+mod beginning;
 mod cut;
 mod executor;
 mod laws;

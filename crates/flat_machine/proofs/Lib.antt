@@ -1,4 +1,4 @@
-pub mod FullMap
+pub mod FullPages
 pub mod Layered
 pub mod RunFeet
 pub mod RunPaid

@@ -1,10 +1,10 @@
 ghost use Rattle.std.specs.Prelude.{◌≡◌, ◌≢◌, ◌+◌, ◌-◌, ◌^◌, ◌<◌, ◌≤◌, ℕ, List, IsTrue, IsFalse, None, IfOk, OnOk, OnErr, IfSome, IfNone};
 ghost use Rattle.page_core.specs.Images.{Image as PlainImage};
-ghost use Rattle.page_core.specs.Stored.{memory_of};
+ghost use Rattle.page_core.specs.Memories.{page_of};
 ghost use Rattle.elf_image.specs.Loaded.{image_of};
 ghost use Rattle.rv_step.specs.Machine.{full, full_of, foot_of, step_cost, step_of};
 ghost use Rattle.rv_step.specs.Stepping.{fault_in};
-ghost use Rattle.page_core.specs.declared.sizes.TheConstants.{PAGES};
+ghost use Rattle.page_core.specs.declared.sizes.TheConstants.{PAGES, REGISTER_PAGE};
 ghost use Rattle.rv_step.specs.Quick.{GoesQuickly};
 ghost use Rattle.rv_step.specs.Runs.{start, after};
 ghost use Rattle.flat_machine.specs.Going.{flat_state, went_steps, IsRunOf, DoesOne, DoesNone, DoesLast, IsRunEnd};
@@ -13,7 +13,7 @@ use crate::memory::FlatMemory;
 use byte_cursor::{ByteList, WordList};
 use elf_image::Image;
 use host_calls::CallList;
-use page_core::{PageMap, TOP};
+use page_core::{Page, REGISTER_PAGE};
 use rv_isa::Regs;
 use rv_step::{
     AllPages, Core, DecodeTable, Event, Looked, Outcome, PageSet, RunLog, StepStop, WordTape, look,
@@ -78,14 +78,14 @@ impl Model for Flat {
         }) };
 }
 
-// Writes the words of x1 to x31 into the register page.
-fn write_registers(map: &mut PageMap, regs: Regs) -> Result<(), AllocError>
-    ensures { OnOk result ((a : ℕ) → memory_of map.new a ≡ full_of (memory_of map.old) regs a) }
+// Writes the words of x1 to x31 into the register page of a memory.
+fn write_registers(page: &mut Page, regs: Regs)
+    ensures { (m : ℕ → ℕ) → page.old ≡ page_of m REGISTER_PAGE →
+        page.new ≡ page_of (full_of m regs) REGISTER_PAGE }
 {
     for n in 1..32u8 {
-        map.set_word(TOP + 4 * u32::from(n), regs.get(n))?;
+        page.put(4 * n as usize, &regs.get(n).to_le_bytes());
     }
-    Ok(())
 }
 
 impl Flat {
@@ -314,18 +314,17 @@ impl Flat {
         self.core.pc
     }
 
-    /// The memory of the state that it is in, with the registers in the register page.
-    pub fn full(&self) -> Result<PageMap, AllocError>
-        ensures { IfOk result (λ map. (a : ℕ) → memory_of map a ≡ full (flat_state self.now) a) }
+    /// A copy of the page with this number, of the memory of the state that it is in with the registers in the register
+    /// page. It takes no memory.
+    pub fn full_page(&self, number: u32) -> Page
+        requires { number < PAGES }
+        ensures { result ≡ page_of (full (flat_state self.now)) number }
     {
-        let mut map = PageMap::new(self.alloc);
-        for number in 0..self.memory.end() {
-            if let Some(page) = self.memory.page(number) {
-                map.put_page(number, page)?;
-            }
+        let mut page = Page::of(self.memory.bytes_of(number));
+        if number == REGISTER_PAGE {
+            write_registers(&mut page, self.core.regs);
         }
-        write_registers(&mut map, self.core.regs)?;
-        Ok(map)
+        page
     }
 
     /// The input words that it has read.

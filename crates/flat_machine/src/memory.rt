@@ -1,8 +1,7 @@
-ghost use Rattle.std.specs.Prelude.{◌≡◌, ℕ, ◌/◌, ◌<◌, ◌≤◌, None, OnOk, option_map};
+ghost use Rattle.std.specs.Prelude.{◌≡◌, ℕ, None, OnOk, option_map};
 ghost use Rattle.page_core.specs.Pages.{IsPage};
 ghost use Rattle.page_core.specs.Stored.{stored_at, memory_of};
 ghost use Rattle.flat_machine.specs.Layers.{layer_page, layered_pages, memory_in};
-ghost use Rattle.page_core.specs.declared.sizes.TheConstants.{PAGES};
 
 use page_core::{PAGES, Page, PageMap};
 use rv_step::{Bus, OpenPages};
@@ -39,7 +38,7 @@ impl FlatMemory {
     }
 
     // The page with this number; None exactly where it is in neither layer, and zero.
-    pub(crate) fn page(&self, number: u32) -> Option<&Page>
+    fn page(&self, number: u32) -> Option<&Page>
         ensures { option_map (λ page. page.now) result ≡ layer_page self.now number }
     {
         match self.above.page(number) {
@@ -48,24 +47,12 @@ impl FlatMemory {
         }
     }
 
-    // A number up to 262,144 from which on neither layer has a page.
-    pub(crate) fn end(&self) -> u32
-        ensures bound { result ≤ PAGES }
-        ensures none { (n : ℕ) → result ≤ n → n < PAGES → layer_page self.now n ≡ None }
-    {
-        let end = self.above.end();
-        if self.below.next_from(0).is_none() && end < PAGES as usize {
-            return end as u32;
-        }
-        PAGES
-    }
-
-    // The bytes of the page in which an address lies.
-    fn bytes_around(&self, address: u32) -> &[u8; 1024]
-        ensures value { result.now ≡ layered_pages self.now (address / 1024) }
+    // The bytes of the page with this number.
+    pub(crate) fn bytes_of(&self, number: u32) -> &[u8; 1024]
+        ensures value { result.now ≡ layered_pages self.now number }
         ensures page { IsPage result.now }
     {
-        match self.page(address / 1024) {
+        match self.page(number) {
             Some(page) => page.bytes(),
             None => &[0; 1024],
         }
@@ -110,7 +97,7 @@ impl Bus for FlatMemory {
     }
 
     fn load_word(&self, address: u32) -> u32 {
-        let bytes = self.bytes_around(address);
+        let bytes = self.bytes_of(address / 1024);
         let at = (address % 1024) as usize;
         u32::from_le_bytes([bytes[at], bytes[at + 1], bytes[at + 2], bytes[at + 3]])
     }

@@ -1,17 +1,23 @@
 -- Bytes of one page, as a memory of pages shows them and as they are put there.
-use Rattle.std.proofs.Common.{◌≡◌, ◌≢◌, ℕ, ◌+◌, ◌-◌, ◌/◌, ◌%◌, ◌<◌, ◌≤◌, List, [], ◌∷◌, ◌++◌, length, get_or, take, drop, sym, ap, ap₂, ◌∙◌, arith, inl, inr, ⊎_elim, get_or-drop, get_or-take, length-append, length-drop}
+use Rattle.std.proofs.Common.{◌≡◌, ◌≢◌, ℕ, ◌+◌, ◌-◌, ◌*◌, ◌/◌, ◌%◌, ◌<◌, ◌≤◌, Bool, cond, eqb, List, [], ◌∷◌, ◌++◌, length, get_or, take, drop, refl, sym, ap, ap₂, ◌∙◌, arith, inl, inr, ⊎_elim, get_or-drop, get_or-take, length-append, length-drop}
 use Rattle.std.specs.Int.{w16, w32, from_le_bytes}
 use Rattle.std.specs.Prelude.{All}
-use Rattle.std.proofs.lemmas.Bool.{cases_eq}
+use Rattle.std.proofs.lemmas.Bool.{cases_eq, eq-eqb, ne_eqb}
 use Rattle.std.proofs.lemmas.Bool.Decides.{leb_tells}
 use Rattle.std.proofs.lemmas.List.{append-nil, drop_all, get_or-append-add, get_or_append_left, get_or_default, length-take, length-take-le}
 use Rattle.std.proofs.lemmas.List.Elements.{All-append, All-drop, All-take}
 use Rattle.page_core.specs.Memory.{bytes, put}
 use Rattle.page_core.specs.Pages.{Pages, IsPage}
-use Rattle.page_core.specs.Memories.{flat}
-use Rattle.page_core.proofs.Bytes.{two, four, put-outside, put-inside, length-bytes, get_or-bytes}
+use Rattle.page_core.specs.Memories.{flat, page_of}
+use Rattle.page_core.proofs.Bytes.{two, four, put-outside, put-inside, put-same, length-bytes, get_or-bytes, flat-page_of, page_same, bytes_hold_pages}
 
 -- ---- reading
+-- a page of 1,024 bytes is that of the memory that the pages make
+pub page_shown : (pages : Pages) (i : ℕ) (page : List ℕ) → pages i ≡ page → IsPage page → page_of (flat pages) i ≡ page
+page_shown pages i page is shape =
+    page_same (flat pages) (flat (λ _. page)) i (λ a at. ap (λ (bs : List ℕ). get_or bs (a % 1024) 0) (ap pages at ∙ is))
+    ∙ bytes_hold_pages (λ _. page) i (λ _. shape)
+
 -- a byte of the page in which an address lies
 pub byte_shown : (pages : Pages) (a k : ℕ) → a % 1024 + k < 1024 → flat pages (a + k) ≡ get_or (pages (a / 1024)) (a % 1024 + k) 0
 byte_shown pages a k within =
@@ -133,3 +139,33 @@ written old new a bs size fits after others k =
         now here ∙ patched_before page bs (drop (at + length bs) page) at (k % 1024) (omega (arith, size)) (omega (arith, low.1, here))
         ∙ sym (was here) ∙ sym (put-outside (flat old) a bs k (inl low.1)))
         (leb_tells a k)
+
+-- the page of a memory into which bytes are put that lie in it
+pub page_put : (m : ℕ → ℕ) (p at : ℕ) (bs : List ℕ) → at < 1024 → at + length bs ≤ 1024 → IsPage (take at (page_of m p) ++ (bs ++ drop (at + length bs) (page_of m p)))
+    → page_of (put m (1024 * p + at) bs) p ≡ take at (page_of m p) ++ (bs ++ drop (at + length bs) (page_of m p))
+page_put m p at bs low fits shape =
+    page_same (put m (1024 * p + at) bs) (flat new) p
+    (λ k _. put-same m (flat (page_of m)) (1024 * p + at) bs k (sym (flat-page_of m k))
+    ∙ sym (written (page_of m) new (1024 * p + at) bs (length-bytes m _ 1024) (omega (arith, low, fits)) after others k))
+    ∙ page_shown new p page here shape
+  where
+    page : List ℕ
+    page = take at (page_of m p) ++ (bs ++ drop (at + length bs) (page_of m p))
+
+    new : Pages
+    new n = cond (eqb n p) page (page_of m n)
+
+    number : (1024 * p + at) / 1024 ≡ p
+    number = omega (arith, low)
+
+    place : (1024 * p + at) % 1024 ≡ at
+    place = omega (arith, low)
+
+    here : new p ≡ page
+    here = ap (λ (b : Bool). cond b page (page_of m p)) (eq-eqb p p refl)
+
+    after : new ((1024 * p + at) / 1024) ≡ take ((1024 * p + at) % 1024) (page_of m ((1024 * p + at) / 1024)) ++ (bs ++ drop ((1024 * p + at) % 1024 + length bs) (page_of m ((1024 * p + at) / 1024)))
+    after = ap new number ∙ here ∙ sym (ap₂ (λ (n i : ℕ). take i (page_of m n) ++ (bs ++ drop (i + length bs) (page_of m n))) number place)
+
+    others : (n : ℕ) → n ≢ (1024 * p + at) / 1024 → new n ≡ page_of m n
+    others n away = ap (λ (b : Bool). cond b page (page_of m n)) (ne_eqb n p (λ same. away (same ∙ sym number)))

@@ -26,10 +26,10 @@ ascends_before before least [] le up = tt
 ascends_before before least (p ∷ ps) le up = (omega (arith, le, up.0), up.1)
 
 -- the page of the first number, and of the others
-at_head : (p : ℕ × List ℕ) (ps : Stored) → stored_at (p ∷ ps) p.0 ≡ Some p.1
+pub at_head : (p : ℕ × List ℕ) (ps : Stored) → stored_at (p ∷ ps) p.0 ≡ Some p.1
 at_head p ps = elim (eqb_tells p.0 p.0) [ inl e ↦ ap (λ t. if t then Some p.1 else stored_at ps p.0) e.0 | inr ne ↦ absurd (ne.1 refl) ]
 
-at_rest : (p : ℕ × List ℕ) (ps : Stored) (n : ℕ) → n ≢ p.0 → stored_at (p ∷ ps) n ≡ stored_at ps n
+pub at_rest : (p : ℕ × List ℕ) (ps : Stored) (n : ℕ) → n ≢ p.0 → stored_at (p ∷ ps) n ≡ stored_at ps n
 at_rest p ps n other = elim (eqb_tells n p.0) [ inl e ↦ absurd (other e.1) | inr ne ↦ ap (λ t. if t then Some p.1 else stored_at ps n) ne.0 ]
 
 -- no page is stored before the first number

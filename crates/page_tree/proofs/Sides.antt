@@ -8,7 +8,7 @@ use Rattle.part_tree.proofs.Below.{one_side, sides_fit}
 use Rattle.page_tree.specs.Grown.{AscendFrom}
 
 -- numbers that ascend from one on also ascend from each before it
-ascend_before : (before least : ℕ) (xs : List ℕ) → before ≤ least → AscendFrom least xs → AscendFrom before xs
+pub ascend_before : (before least : ℕ) (xs : List ℕ) → before ≤ least → AscendFrom least xs → AscendFrom before xs
 ascend_before before least [] le up = tt
 ascend_before before least (x ∷ xs) le up = (omega (arith, le, up.0), up.1, up.2)
 

@@ -1,4 +1,5 @@
 ghost use Rattle.std.specs.Prelude.{◌≡◌, ℕ, ◌+◌, ◌-◌, ◌*◌, ◌^◌, ◌<◌, ◌≤◌, [], length, map, IfOk, OnOk, OnErr, option_map};
+ghost use Rattle.page_core.specs.Pages.{ArePages};
 ghost use Rattle.page_core.specs.Stored.{IsStoredFrom, stored_at, stored_pages};
 ghost use Rattle.part_tree.specs.Tree.{node, root};
 ghost use Rattle.part_tree.specs.Part.{part_of};
@@ -107,7 +108,8 @@ impl<D: Digester> PageTree<D> {
 
     /// A tree of the same memory, at the cost of a reference. An AllocError says that 2^63 share it.
     pub fn share(&self) -> Result<PageTree<D>, AllocError>
-        ensures { IfOk result (λ tree. tree ≡ self.now) }
+        ensures same { IfOk result (λ tree. tree ≡ self.now) }
+        ensures pages { ArePages (stored_pages self.now) }
     {
         Ok(PageTree {
             top: Arc::try_clone(&self.top)?,

@@ -57,13 +57,6 @@ impl OpenPages {
             _ => None,
         }
     }
-
-    /// A number from which on no page is open.
-    pub fn end(&self) -> usize
-        ensures { (number : ℕ) → result ≤ number → page_in self.now number ≡ None }
-    {
-        self.pages.len()
-    }
 }
 
 impl Bus for OpenPages {

@@ -1,5 +1,5 @@
 -- Open pages as parts of a memory, and the registers written into the register page.
-use Rattle.std.proofs.Common.{◌≡◌, ◌≢◌, ℕ, ◌+◌, ◌*◌, ◌/◌, ◌%◌, ◌<◌, ◌≤◌, Bool, true, false, List, [], ◌∷◌, get_or, length, Option, Some, None, refl, sym, ap, ◌∙◌, arith, IsTrue, inl, inr, ◌⊎◌}
+use Rattle.std.proofs.Common.{◌≡◌, ◌≢◌, ℕ, ◌+◌, ◌*◌, ◌/◌, ◌<◌, ◌≤◌, Bool, true, false, List, [], ◌∷◌, get_or, length, Option, Some, None, refl, sym, ap, ◌∙◌, arith, IsTrue, inl, inr, ◌⊎◌}
 use Rattle.std.specs.Int.{w32, to_le_bytes}
 use Rattle.std.specs.List.{flat_map}
 use Rattle.std.proofs.lemmas.Bool.{true≢false}
@@ -7,21 +7,16 @@ use Rattle.page_core.proofs.Zeros.{zeros_are}
 use Rattle.std.specs.Prelude.{is_some, unwrap_or}
 use Rattle.std.proofs.lemmas.Bool.Decides.{leb_tells}
 use Rattle.page_core.specs.Memory.{top, put}
-use Rattle.page_core.specs.Pages.{Pages, IsPage, zero_page}
+use Rattle.page_core.specs.Pages.{IsPage, zero_page}
 use Rattle.page_core.specs.Memories.{flat, page_of}
-use Rattle.page_core.proofs.Bytes.{put-outside, length-words, page_same, bytes_hold_pages}
+use Rattle.page_core.proofs.Bytes.{put-outside, length-words, page_same}
+use Rattle.page_core.proofs.Shown.{page_shown}
 use Rattle.rv_step.specs.Machine.{full_of}
 use Rattle.rv_step.specs.Opened.{page_in, pages_in}
 use Rattle.rv_step.proofs.Words.{none_put, full_up_to, one_more_full, all_full}
 
 -- ---- one page
--- a page of 1,024 bytes is that of the memory that the pages make
-page_shown : (pages : Pages) (i : ℕ) (page : List ℕ) → pages i ≡ page → IsPage page → page_of (flat pages) i ≡ page
-page_shown pages i page is shape =
-    page_same (flat pages) (flat (λ _. page)) i (λ a at. ap (λ (bs : List ℕ). get_or bs (a % 1024) 0) (ap pages at ∙ is))
-    ∙ bytes_hold_pages (λ _. page) i (λ _. shape)
-
--- so is an open page, and zeros where none is open
+-- an open page is that of the memory that the pages make, and zeros where none is open
 pub open_shown : (pages : List (Option (List ℕ))) (i : ℕ) (page : List ℕ) → Some page ≡ page_in pages i → IsPage page → page_of (flat (pages_in pages)) i ≡ page
 open_shown pages i page is shape = page_shown (pages_in pages) i page (ap (λ (o : Option (List ℕ)). unwrap_or o zero_page) (sym is)) shape
 

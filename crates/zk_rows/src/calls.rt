@@ -45,7 +45,11 @@ pub(crate) fn grow_foot(out: &mut Lines, pages: &[&str]) -> Result<(), RowStop> 
     let Some((code, pages)) = pages.split_first() else {
         return add_foot(out, &Foot::of_registers());
     };
-    let mut foot = Foot::of_code(decimal(code)?);
+    add_feet(out, Foot::of_code(decimal(code)?), pages)
+}
+
+// Adds a footprint, and what it is after each page of data that is added.
+fn add_feet(out: &mut Lines, mut foot: Foot, pages: &[&str]) -> Result<(), RowStop> {
     add_foot(out, &foot)?;
     for page in pages {
         add_page(&mut foot, page)?;
@@ -76,7 +80,10 @@ pub(crate) fn meter_steps(alloc: Global, out: &mut Lines, words: &[&str]) -> Res
         return Err(RowStop::NoRow);
     };
     let (cycles, pages) = (decimal(cycles)?, decimal(pages)?);
-    let mut meter = Meter::new(alloc, cycles, pages);
+    meter_words(out, Meter::new(alloc, cycles, pages), words)
+}
+
+fn meter_words(out: &mut Lines, mut meter: Meter, words: &[&str]) -> Result<(), RowStop> {
     for word in words {
         add_metered(out, &mut meter, word)?;
     }
@@ -92,35 +99,48 @@ fn add_metered(out: &mut Lines, meter: &mut Meter, word: &str) -> Result<(), Row
 
 fn meter_word(meter: &mut Meter, word: &str) -> Result<&'static str, RowStop> {
     match word {
-        "clear" => {
-            meter.clear();
-            Ok("done")
-        }
-        "reserve" => {
-            meter.reserve()?;
-            Ok("done")
-        }
+        "clear" => Ok(clear(meter)),
+        "reserve" => reserve(meter),
         step => meter_step(meter, step),
     }
 }
 
-// Adds a step where it fits.
+fn clear(meter: &mut Meter) -> &'static str {
+    meter.clear();
+    "done"
+}
+
+fn reserve(meter: &mut Meter) -> Result<&'static str, RowStop> {
+    meter.reserve()?;
+    Ok("done")
+}
+
 fn meter_step(meter: &mut Meter, step: &str) -> Result<&'static str, RowStop> {
     let (cost, pages) = split_at_mark(step, ':')?;
-    let (cost, foot) = (decimal(cost)?, foot_of(pages)?);
-    if !meter.fits(&foot, cost) {
+    let cost = decimal(cost)?;
+    add_fitting(meter, &foot_of(pages)?, cost)
+}
+
+// Adds a step where it fits.
+fn add_fitting(meter: &mut Meter, foot: &Foot, cost: u32) -> Result<&'static str, RowStop> {
+    if !meter.fits(foot, cost) {
         return Ok("doesn't fit");
     }
-    meter.add(&foot, cost)?;
+    meter.add(foot, cost)?;
     Ok("fits")
 }
 
 // The footprint of these pages, the first of which has the code.
 fn foot_of(text: &str) -> Result<Foot, RowStop> {
-    let Some((code, data)) = text.split_once(',') else {
-        return Ok(Foot::of_code(decimal(text)?));
-    };
-    let mut foot = Foot::of_code(decimal(code)?);
+    match text.split_once(',') {
+        Some((code, data)) => foot_with(decimal(code)?, data),
+        None => Ok(Foot::of_code(decimal(text)?)),
+    }
+}
+
+// The footprint of a page of code and of these pages of data.
+fn foot_with(code: u32, data: &str) -> Result<Foot, RowStop> {
+    let mut foot = Foot::of_code(code);
     for page in data.split(',') {
         add_page(&mut foot, page)?;
     }

@@ -64,9 +64,25 @@ fn digest_of<D: Digester>(
         Subject::TaggedList => tagged_items::<D>(alloc, shelf, words),
         Subject::State => state_of::<D>(shelf, words),
         Subject::OkClaim => ok_claim_of::<D>(shelf, words),
-        Subject::Claim => Ok(claim_digest::<D>(&claim_of(alloc, shelf, words)?)),
-        Subject::Conditional => Ok(conditional_digest::<D>(&claim_of(alloc, shelf, words)?)),
+        Subject::Claim => digest_of_claim::<D>(alloc, shelf, words),
+        Subject::Conditional => conditional_of::<D>(alloc, shelf, words),
     }
+}
+
+fn digest_of_claim<D: Digester>(
+    alloc: Global,
+    shelf: &Shelf,
+    words: &[&str],
+) -> Result<Digest, RowStop> {
+    Ok(claim_digest::<D>(&claim_of(alloc, shelf, words)?))
+}
+
+fn conditional_of<D: Digester>(
+    alloc: Global,
+    shelf: &Shelf,
+    words: &[&str],
+) -> Result<Digest, RowStop> {
+    Ok(conditional_digest::<D>(&claim_of(alloc, shelf, words)?))
 }
 
 // The digest of which a file has the bytes.

@@ -104,6 +104,11 @@ pub(crate) fn sink_puts(alloc: Global, out: &mut Lines, words: &[&str]) -> Resul
     for text in texts {
         put_text(out, &mut sink, text)?;
     }
+    add_taken(out, &sink)
+}
+
+// Adds what a sink has taken.
+fn add_taken(out: &mut Lines, sink: &MemSink) -> Result<(), RowStop> {
     match str::from_utf8(sink.taken()) {
         Ok(taken) => out.add(format_args!("taken {taken}")),
         Err(_) => Err(RowStop::NoRow),

@@ -166,8 +166,19 @@ fn add_machine(
 ) -> Result<(), RowStop> {
     let mut machine = Machine::with(alloc, shelf, settings)?;
     do_steps(out, &mut machine, steps)?;
+    add_changes_since(alloc, shelf, out, &machine, settings)
+}
+
+// Adds where a machine differs from the one of these settings.
+fn add_changes_since(
+    alloc: Global,
+    shelf: &Shelf,
+    out: &mut Lines,
+    machine: &Machine,
+    settings: &[&str],
+) -> Result<(), RowStop> {
     let made = Machine::with(alloc, shelf, settings)?;
-    add_changes(alloc, out, &machine, &made)
+    add_changes(alloc, out, machine, &made)
 }
 
 fn do_steps(out: &mut Lines, machine: &mut Machine, steps: Steps) -> Result<(), RowStop> {

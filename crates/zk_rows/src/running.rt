@@ -27,7 +27,7 @@ pub(crate) struct Faults {
 
 impl Faults {
     /// One run, in which no call fails.
-    pub fn none(alloc: Global) -> Faults {
+    pub(crate) fn none(alloc: Global) -> Faults {
         Faults {
             pairs: Vec::new(alloc),
         }

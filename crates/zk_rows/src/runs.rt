@@ -110,7 +110,10 @@ fn word_text(alloc: Global, flat: &Flat, address: u32) -> Result<String, RowStop
     if address % 4 != 0 || address >= 0x1000_0000 {
         return Err(RowStop::NoRow);
     }
-    let word = flat.full()?.word(address);
+    let page = flat.full_page(address / 1024);
+    let bytes = page.bytes();
+    let at = (address % 1024) as usize;
+    let word = u32::from_le_bytes([bytes[at], bytes[at + 1], bytes[at + 2], bytes[at + 3]]);
     Ok(format!(in alloc; "{word:08x}")?)
 }
 
@@ -163,9 +166,17 @@ pub(crate) fn count_cuts(
     run: &[&str],
 ) -> Result<(), RowStop> {
     let mut executor = executor_of(alloc, shelf, run)?;
-    let count = cuts_left(&mut executor)?;
+    add_count(alloc, out, &mut executor)
+}
+
+fn add_count(
+    alloc: Global,
+    out: &mut Lines,
+    executor: &mut Executor<WeakDigester>,
+) -> Result<(), RowStop> {
+    let count = cuts_left(executor)?;
     out.add(format_args!("{count} cuts"))?;
-    let _is_cut = add_next(alloc, out, &mut executor)?;
+    let _is_cut = add_next(alloc, out, executor)?;
     Ok(())
 }
 
@@ -185,20 +196,25 @@ fn add_next(
     out: &mut Lines,
     executor: &mut Executor<WeakDigester>,
 ) -> Result<bool, RowStop> {
-    match executor.next()? {
-        Next::Cut(cut) => {
-            add_cut(alloc, out, &cut)?;
-            Ok(true)
-        }
-        Next::Ended(outcome) => {
-            out.add(format_args!("{outcome:?}"))?;
-            Ok(false)
-        }
-        Next::TooManySeals => {
-            out.add("too many seals")?;
-            Ok(false)
-        }
+    let next = executor.next()?;
+    add_cut_or_end(alloc, out, &next)?;
+    Ok(is_cut(&next))
+}
+
+fn add_cut_or_end(
+    alloc: Global,
+    out: &mut Lines,
+    next: &Next<WeakDigester>,
+) -> Result<(), RowStop> {
+    match next {
+        Next::Cut(cut) => add_cut(alloc, out, cut),
+        Next::Ended(outcome) => out.add(format_args!("{outcome:?}")),
+        Next::TooManySeals => out.add("too many seals"),
     }
+}
+
+fn is_cut(next: &Next<WeakDigester>) -> bool {
+    matches!(next, Next::Cut(_))
 }
 
 // Adds a cut: its number, the pc, the steps, the words and the open pages of its seal.

@@ -1,4 +1,4 @@
-use Rattle.std.proofs.Common.{not, refl, sym, ap, ◌∙◌, subst, arith}
+use Rattle.std.proofs.Common.{refl, sym, ◌∙◌, subst, arith}
 use Rattle.page_core.proofs.Options.{none_from}
 use Rattle.executor.specs.Marked.{with_steps}
 use Rattle.executor.specs.Cutting.{Cutting, CutsRun}
@@ -11,7 +11,7 @@ overflow_add-self g c =
     let v : Cutting = record { going = c.self.inside.flat; limits = c.self.inside.limits; number = c.self.inside.number; beginning = c.self.inside.beginning; steps = c.self.inside.steps; meter = c.self.inside.meter.segment; outcome = c.self.inside.outcome } in
     let untold = none_from c.self.inside.outcome (sym c.is_some.ensures ∙ c.if-is_some.false) in
     let m = with_steps c.go_quickly-done.result v.meter in
-    let after = cutting_gone_on v c.go_quickly-done.new.self c.go_quickly-done.result m untold (c.self.invariant.halted untold) (c.is_none.ensures ∙ ap not c.if-is_none.false) c.go_quickly-done.ensures.went c.go_quickly-done.ensures.steps c.go_quickly-done.ensures.cycles c.go_quickly-done.ensures.halted
+    let after = cutting_gone_on v c.go_quickly-done.new.self c.go_quickly-done.result m untold (c.self.invariant.halted untold) c.go_quickly-done.ensures.went c.go_quickly-done.ensures.steps c.go_quickly-done.ensures.cycles c.go_quickly-done.ensures.halted
     (omega (arith, c.go_quickly-done.ensures.bound, c.min.ensures, c.limit.ensures.value, c.cycles.ensures, c.self.invariant.within)) (omega (arith, c.go_quickly-done.ensures.bound, c.min.ensures, c.room.ensures.room, c.self.invariant.cycles)) refl c.go_quickly-done.ensures.stands c.self.invariant in
     omega (arith, few_steps (gone_on v c.go_quickly-done.new.self c.go_quickly-done.result m) after untold)
 
@@ -19,7 +19,7 @@ pub invariant_of-self : goal.invariant_of-self
 invariant_of-self g c =
     let v : Cutting = record { going = c.self.inside.flat; limits = c.self.inside.limits; number = c.self.inside.number; beginning = c.self.inside.beginning; steps = c.self.inside.steps; meter = c.self.inside.meter.segment; outcome = c.self.inside.outcome } in
     let untold = none_from c.self.inside.outcome (sym c.is_some.ensures ∙ c.if-is_some.false) in
-    cutting_gone_on v c.go_quickly-done.new.self c.go_quickly-done.result c.add_quick.new.self.segment untold (c.self.invariant.halted untold) (c.is_none.ensures ∙ ap not c.if-is_none.false) c.go_quickly-done.ensures.went c.go_quickly-done.ensures.steps c.go_quickly-done.ensures.cycles c.go_quickly-done.ensures.halted
+    cutting_gone_on v c.go_quickly-done.new.self c.go_quickly-done.result c.add_quick.new.self.segment untold (c.self.invariant.halted untold) c.go_quickly-done.ensures.went c.go_quickly-done.ensures.steps c.go_quickly-done.ensures.cycles c.go_quickly-done.ensures.halted
     (omega (arith, c.go_quickly-done.ensures.bound, c.min.ensures, c.limit.ensures.value, c.cycles.ensures, c.self.invariant.within)) (omega (arith, c.go_quickly-done.ensures.bound, c.min.ensures, c.room.ensures.room, c.self.invariant.cycles)) c.add_quick.ensures c.go_quickly-done.ensures.stands c.self.invariant
 
 pub returns-clause-stands : goal.returns-clause-stands
@@ -27,5 +27,5 @@ returns-clause-stands g c image words stands =
     let v : Cutting = record { going = c.self.inside.flat; limits = c.self.inside.limits; number = c.self.inside.number; beginning = c.self.inside.beginning; steps = c.self.inside.steps; meter = c.self.inside.meter.segment; outcome = c.self.inside.outcome } in
     let untold = none_from c.self.inside.outcome (sym c.is_some.ensures ∙ c.if-is_some.false) in
     let here = subst (λ (x : Cutting). CutsRun x image words) (sym c.self.view_is) stands in
-    stands_gone_on v c.go_quickly-done.new.self c.go_quickly-done.result c.add_quick.new.self.segment untold (c.self.invariant.halted untold) (c.is_none.ensures ∙ ap not c.if-is_none.false) c.go_quickly-done.ensures.went c.go_quickly-done.ensures.steps c.go_quickly-done.ensures.cycles c.go_quickly-done.ensures.halted
+    stands_gone_on v c.go_quickly-done.new.self c.go_quickly-done.result c.add_quick.new.self.segment untold (c.self.invariant.halted untold) c.go_quickly-done.ensures.went c.go_quickly-done.ensures.steps c.go_quickly-done.ensures.cycles c.go_quickly-done.ensures.halted
     (omega (arith, c.go_quickly-done.ensures.bound, c.min.ensures, c.limit.ensures.value, c.cycles.ensures, c.self.invariant.within)) (omega (arith, c.go_quickly-done.ensures.bound, c.min.ensures, c.room.ensures.room, c.self.invariant.cycles)) c.add_quick.ensures image words (c.go_quickly-done.ensures.stands image words here.run) here

@@ -1,13 +1,11 @@
-use Rattle.std.proofs.Common.{ℕ, List, length, sym, ap, ap₂, ◌∙◌, subst, arith}
-use Rattle.page_core.specs.Images.{Image}
-use Rattle.host_calls.specs.Meters.{Metered}
+use Rattle.std.proofs.Common.{ℕ, ◌+◌, length, sym, ap, ap₂, ◌∙◌, subst, arith}
 use Rattle.rv_step.specs.Runs.{start, IsOutcome}
 use Rattle.receipt_types.specs.Bundles.{item}
 use Rattle.executor.specs.Segments.{Limits, lengths}
 use Rattle.executor.specs.Proving.{cut_seals}
-use Rattle.executor.specs.Cutting.{Cutting, CutsRun, IsWhole, IsCutting}
+use Rattle.executor.specs.Cutting.{Cutting, IsCutting}
 use Rattle.executor.proofs.UnderWay.{some_not_none}
-use Rattle.executor.proofs.Onward.{over, has_ended, has_more, stands_given, cutting_given}
+use Rattle.executor.proofs.Onward.{over, has_ended, has_more}
 use Rattle.executor.proofs.executor.Executor.next.Goals as goal
 
 pub returns-in_err-advance-clause-stands : goal.returns-in_err-advance-clause-stands
@@ -58,31 +56,6 @@ cut-requires-clause-whole g c κs within image words stands = c.in_ok-advance.en
 pub returns-in_err-cut-clause-stands : goal.returns-in_err-cut-clause-stands
 returns-in_err-cut-clause-stands g c image words stands = c.advance.ensures.stands image words (c.loop.invariant.0 image words stands)
 
-pub invariant_of-self : goal.invariant_of-self
-invariant_of-self g c =
-    let v : Cutting = record { going = c.self.inside.flat; limits = c.self.inside.limits; number = c.self.inside.number; beginning = c.self.inside.beginning; steps = c.self.inside.steps; meter = c.self.inside.meter.segment; outcome = c.self.inside.outcome } in
-    subst (λ (m : Metered). IsCutting (record v { meter = m })) (sym c.in_err-clear.ensures.kept) c.self.invariant
-
-pub returns-in_err-clear-clause-stands : goal.returns-in_err-clear-clause-stands
-returns-in_err-clear-clause-stands g c image words stands =
-    let v : Cutting = record { going = c.self.inside.flat; limits = c.self.inside.limits; number = c.self.inside.number; beginning = c.self.inside.beginning; steps = c.self.inside.steps; meter = c.self.inside.meter.segment; outcome = c.self.inside.outcome } in
-    subst (λ (m : Metered). CutsRun (record v { meter = m }) image words) (sym c.in_err-clear.ensures.kept)
-    (subst (λ (x : Cutting). CutsRun x image words) (sym c.self.view_is) (c.advance.ensures.stands image words (c.loop.invariant.0 image words stands)))
-
-pub invariant_of-self-2 : goal.invariant_of-self-2
-invariant_of-self-2 g c =
-    let v : Cutting = record { going = c.self.inside.flat; limits = c.self.inside.limits; number = c.self.inside.number; beginning = c.self.inside.beginning; steps = c.self.inside.steps; meter = c.self.inside.meter.segment; outcome = c.self.inside.outcome } in
-    let whole = subst (λ (x : Cutting). (image : Image) (words : List ℕ) → (stands : CutsRun x image words) → IsWhole (start image words) x stands.segment) (sym c.self.view_is) (c.in_ok-advance.ensures.whole c.if-branch.false) in
-    let h : IsCutting v = c.self.invariant in
-    cutting_given v c.clear.new.self.segment (omega (arith, c.if-self-eq0.false)) c.in_ok-clear.ensures.fresh h (whole h.image h.words h.stands) (omega (arith, h.number, c.if-self-eq-MOST_SEALS.false))
-
-pub returns-clause-stands : goal.returns-clause-stands
-returns-clause-stands g c image words stands =
-    let v : Cutting = record { going = c.self.inside.flat; limits = c.self.inside.limits; number = c.self.inside.number; beginning = c.self.inside.beginning; steps = c.self.inside.steps; meter = c.self.inside.meter.segment; outcome = c.self.inside.outcome } in
-    let whole = subst (λ (x : Cutting). (image : Image) (words : List ℕ) → (stands : CutsRun x image words) → IsWhole (start image words) x stands.segment) (sym c.self.view_is) (c.in_ok-advance.ensures.whole c.if-branch.false) in
-    let here : CutsRun v image words = subst (λ (x : Cutting). CutsRun x image words) (sym c.self.view_is) (c.advance.ensures.stands image words (c.loop.invariant.0 image words stands)) in
-    stands_given v c.clear.new.self.segment (omega (arith, c.if-self-eq0.false)) c.in_ok-clear.ensures.fresh c.self.invariant.halted image words here (whole image words here)
-
 pub returns-clause-gives : goal.returns-clause-gives
 returns-clause-gives g c image words stands =
     let limits = c.advance.ensures.same.0 ∙ c.loop.invariant.1 in
@@ -92,5 +65,14 @@ returns-clause-gives g c image words stands =
       omega (arith, number, given, c.self.invariant.number, c.if-self-eq-MOST_SEALS.false),
       c.in_ok-cut.ensures.number ∙ number,
       ap₂ (λ (l : Limits) (n : ℕ). item (cut_seals g.D.Digester.digest_of l (start image words)) n) (sym limits) (sym number) ∙ c.in_ok-cut.ensures.seal image words here,
-      omega (arith, number, given),
+      c.in_ok-turn.ensures.turned ∙ ap (λ (n : ℕ). n + 1) number,
     )
+
+pub turn-requires-clause-whole : goal.turn-requires-clause-whole
+turn-requires-clause-whole g c κs within image words stands = c.in_ok-advance.ensures.whole c.if-branch.false image words stands
+
+pub returns-in_err-turn-clause-stands : goal.returns-in_err-turn-clause-stands
+returns-in_err-turn-clause-stands g c image words stands = c.turn.ensures.stands image words (c.advance.ensures.stands image words (c.loop.invariant.0 image words stands))
+
+pub returns-clause-stands : goal.returns-clause-stands
+returns-clause-stands g c image words stands = c.turn.ensures.stands image words (c.advance.ensures.stands image words (c.loop.invariant.0 image words stands))

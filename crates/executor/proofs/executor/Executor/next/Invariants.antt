@@ -9,3 +9,7 @@ invariant-loop g l =
 
 abbrev pub decreases-loop : goal.decreases-loop
 decreases-loop g l = l.self.limits.limit - l.self.going.cycles
+
+-- no digest is counted
+abbrev pub ghosts-turn : goal.ghosts-turn
+ghosts-turn g a = record { name = a.blank.name; parts = a.blank.parts }

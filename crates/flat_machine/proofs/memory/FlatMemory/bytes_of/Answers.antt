@@ -2,7 +2,7 @@ use Rattle.std.proofs.Common.{ℕ, List, Option, ap}
 use Rattle.std.specs.Prelude.{unwrap_or}
 use Rattle.page_core.specs.Pages.{zero_page}
 use Rattle.page_core.proofs.Zeros.{zeros_are}
-use Rattle.flat_machine.proofs.memory.FlatMemory.bytes_around.Goals as goal
+use Rattle.flat_machine.proofs.memory.FlatMemory.bytes_of.Goals as goal
 
 pub returns-in-None-clause-value : goal.returns-in-None-clause-value
 unfolding zero_page
