@@ -6,7 +6,6 @@ pub mod Replays
 pub mod Claimed
 pub mod Limited
 pub mod UnderWay
-pub mod Changed
 pub mod Quickly
 pub mod MarkedPages
 pub mod Sealed

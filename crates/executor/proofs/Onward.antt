@@ -11,7 +11,8 @@ use Rattle.rv_step.proofs.Runs.{after-add}
 use Rattle.flat_machine.specs.Going.{flat_state, IsRunOf}
 use Rattle.executor.specs.Segments.{done_in, segments, lengths, total}
 use Rattle.executor.specs.Proving.{run_words}
-use Rattle.executor.specs.Cutting.{Beginning, Cutting, HoldsMemory, IsBeginning, HasOutcome, IsUnderWay, IsOver, CutsRun, IsWhole, IsCutting}
+use Rattle.flat_machine.specs.Following.{HoldsMemory}
+use Rattle.executor.specs.Cutting.{Beginning, Cutting, IsBeginning, HasOutcome, IsUnderWay, IsOver, CutsRun, IsWhole, IsCutting}
 use Rattle.executor.proofs.Cutting.{fits_none, segments_none}
 use Rattle.executor.proofs.Forward.{run_words_are}
 use Rattle.executor.proofs.UnderWay.{some_of, went_all}

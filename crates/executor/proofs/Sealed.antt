@@ -27,7 +27,8 @@ use Rattle.flat_machine.specs.Going.{Going, flat_state, went_steps_in, HaltsWith
 use Rattle.seal_replay.specs.Replay.{stop_of}
 use Rattle.executor.specs.Segments.{done_in, segments, lengths}
 use Rattle.executor.specs.Proving.{read_by, read_at, run_words, seal_from, seals_from, cut_seals, EndsAfter}
-use Rattle.executor.specs.Cutting.{Cutting, seal_of, AreOpened, HoldsMemory, IsUnderWay, IsOver, CutsRun, IsLongest, IsWhole, IsCutting, IsCut}
+use Rattle.flat_machine.specs.Following.{HoldsMemory}
+use Rattle.executor.specs.Cutting.{Cutting, seal_of, AreOpened, IsUnderWay, IsOver, CutsRun, IsLongest, IsWhole, IsCutting, IsCut}
 use Rattle.executor.proofs.Cutting.{run_ready, before_end, fits_tells, segments_some, item-seals_from}
 use Rattle.executor.proofs.Ordered.{ascending_some}
 use Rattle.page_core.proofs.Ascending.{Ascend, ascends, Contains-ascending, Contains-from_ascending}
@@ -35,7 +36,7 @@ use Rattle.executor.proofs.Limited.{used_few, steps_cost, touched_low, touched_r
 use Rattle.executor.proofs.Replays.{touched_in}
 use Rattle.executor.proofs.Claimed.{stretches_replay, run_leaves}
 use Rattle.executor.proofs.UnderWay.{went_all}
-use Rattle.executor.proofs.Changed.{all_below}
+use Rattle.flat_machine.proofs.Followed.{all_below}
 use Rattle.executor.proofs.Forward.{run_words_are, halt_takes}
 
 -- ---- where a segment ends

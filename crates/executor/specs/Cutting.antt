@@ -1,26 +1,25 @@
 -- An executor that is under way.
-use Rattle.std.specs.Prelude.{◌≡◌, ◌⊎◌, ⊤, true, ℕ, ◌+◌, ◌-◌, ◌<◌, ◌≤◌, List, ◌++◌, length, Option, Some, None, is_some, IsTrue}
+use Rattle.std.specs.Prelude.{◌≡◌, ◌⊎◌, ⊤, true, ℕ, ◌+◌, ◌-◌, ◌≤◌, List, ◌++◌, length, Option, Some, None, is_some, IsTrue}
 use Rattle.std.specs.Coded.{Coded, code_by, coded×, coded_ℕ}
 use Rattle.std.proofs.Common.{inl, inr, refl}
 use Rattle.page_core.specs.Images.{Image}
 use Rattle.page_core.specs.Memory.{ascending}
-use Rattle.page_core.specs.Memories.{page_of}
 use Rattle.page_core.specs.Stored.{Stored, stored_pages}
 use Rattle.part_tree.specs.Part.{part_of}
 use Rattle.page_tree.specs.Grown.{AscendFrom}
 use Rattle.host_calls.specs.Meters.{Metered}
-use Rattle.rv_step.specs.Machine.{State, full}
+use Rattle.rv_step.specs.Machine.{State}
 use Rattle.rv_step.specs.Laws.{IsReady}
 use Rattle.rv_step.specs.Runs.{start, after, run_cost, run_pages, IsOutcome}
 use Rattle.rv_step.specs.declared.outcome.Outcome.{Outcome}
 use Rattle.receipt_types.specs.Seals.{Seal, seal_code}
 use Rattle.receipt_types.specs.Limits.{SealLimits}
+use Rattle.flat_machine.specs.Following.{HoldsMemory}
 use Rattle.flat_machine.specs.Going.{Going, IsRunOf}
 use Rattle.seal_replay.specs.Replay.{stop_of}
 use Rattle.executor.specs.Segments.{Limits, done_in, segment_fits, longest, segments, lengths, total}
 use Rattle.executor.specs.Proving.{run_words}
 use Rattle.executor.specs.Laws.{AreLimits}
-use Rattle.page_core.specs.declared.sizes.TheConstants.{PAGES}
 use Rattle.part_tree.specs.declared.sizes.TheConstants.{HEIGHT, MOST_PAGES}
 use Rattle.receipt_types.specs.declared.sizes.TheConstants.{MOST_SEALS}
 
@@ -65,10 +64,6 @@ pub record Cutting : Type 0 where
   pub steps : ℕ
   pub meter : Metered
   pub outcome : Option Outcome
-
--- a tree holds the memory of a state, with the registers
-abbrev pub HoldsMemory : Stored → State → Type 0
-HoldsMemory tree s = (page : ℕ) → page < PAGES → stored_pages tree page ≡ page_of (full s) page
 
 -- it is the beginning of the segment after b steps of the run from r, in the state s
 pub record IsBeginning (r : State) (b : ℕ) (s : State) (at : Beginning) : Type 0 where

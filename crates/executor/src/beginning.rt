@@ -1,19 +1,16 @@
 //! Where segments begin.
-ghost use Rattle.std.specs.Prelude.{◌≡◌, ℕ, ◌<◌, ◌++◌, All, Contains, length, IfOk, OnOk};
-ghost use Rattle.std.specs.Str.{bytes_eq};
+ghost use Rattle.std.specs.Prelude.{◌≡◌, ℕ, ◌<◌, Contains, length, IfOk};
 ghost use Rattle.page_core.specs.Memories.{page_of};
 ghost use Rattle.page_core.specs.Stored.{stored_pages};
 ghost use Rattle.page_core.specs.declared.sizes.TheConstants.{PAGES};
 ghost use Rattle.page_tree.specs.Grown.{AscendFrom};
 ghost use Rattle.rv_step.specs.Machine.{full};
+ghost use Rattle.flat_machine.specs.Following.{HoldsMemory};
 ghost use Rattle.flat_machine.specs.Going.{flat_state};
-ghost use Rattle.executor.specs.Changed.{changed, changed_page};
-ghost use Rattle.executor.specs.Cutting.{HoldsMemory};
 
 use digest_core::Digester;
-use flat_machine::Flat;
-use page_core::Page;
-use page_tree::{PageTree, Steps};
+use flat_machine::{Flat, following_tree};
+use page_tree::PageTree;
 use std::alloc::{AllocError, Global};
 use std::marker::Model;
 use std::sync::ledger::{Blank, Ledger};
@@ -54,58 +51,11 @@ impl<D: Digester> Beginning<D> {
         ensures read { IfOk result (λ next. next.read ≡ length flat.now.read) }
         ensures memory { IfOk result (λ next. HoldsMemory next.tree (flat_state flat.now)) }
     {
-        let pages = changed_pages(alloc, &self.tree, flat, touched)?;
-        let mut tree = self.tree.share()?;
-        let mut steps = Steps::<L>::new(blank);
-        tree.update(&pages, &mut steps)?;
+        let tree = following_tree::<D, L>(alloc, &self.tree, flat, touched, blank)?;
         Ok(Beginning {
             pc: flat.pc(),
             read: flat.read().len(),
             tree,
         })
-    }
-}
-
-// Copies of those of these pages of a run's memory, with the registers, that a tree has otherwise.
-fn changed_pages<D: Digester>(
-    alloc: Global,
-    tree: &PageTree<D>,
-    flat: &Flat,
-    pages: &[u32],
-) -> Result<Vec<(u32, Page)>, AllocError>
-    requires { All (λ page. page < PAGES) pages.now }
-    ensures { IfOk result (λ list. list.items
-        ≡ changed (stored_pages tree.now) (page_of (full (flat_state flat.now))) pages.now) }
-{
-    let mut list = Vec::new(alloc);
-    for page in pages {
-        push_changed(&mut list, tree, *page, flat.full_page(*page))?;
-    }
-    Ok(list)
-}
-
-// Adds a page, if a tree has other bytes under its number.
-fn push_changed<D: Digester>(
-    list: &mut Vec<(u32, Page)>,
-    tree: &PageTree<D>,
-    number: u32,
-    page: Page,
-) -> Result<(), AllocError>
-    ensures { OnOk result (list.new.items
-        ≡ list.old.items ++ changed_page number (stored_pages tree.now number) page) }
-{
-    if !has_bytes(tree, number, page.bytes()) {
-        list.push((number, page))?;
-    }
-    Ok(())
-}
-
-// Whether a tree has these bytes under a number.
-fn has_bytes<D: Digester>(tree: &PageTree<D>, number: u32, bytes: &[u8; 1024]) -> bool
-    ensures { result ≡ bytes_eq (stored_pages tree.now number) bytes.now }
-{
-    match tree.page(number) {
-        Some(page) => page.bytes()[..] == bytes[..],
-        None => [0; 1024][..] == bytes[..],
     }
 }

@@ -8,7 +8,7 @@ use Rattle.std.proofs.lemmas.Bool.Decides.{eqb_tells, leb_tells}
 use Rattle.page_core.specs.Memory.{put}
 use Rattle.page_core.specs.Pages.{zero_page}
 use Rattle.page_core.specs.Memories.{flat}
-use Rattle.page_core.specs.Stored.{Stored, stored_at, first_from, IsStoredFrom}
+use Rattle.page_core.specs.Stored.{Stored, stored_at, first_from, memory_of, IsStoredFrom}
 use Rattle.page_core.proofs.Bytes.{put-outside, put-same}
 use Rattle.rv_step.specs.Opened.{page_in, pages_in}
 use Rattle.flat_machine.specs.Layers.{Layers, layer_page, layered_pages, memory_in}
@@ -166,16 +166,29 @@ lifted_first old now new least number page is first absent put others =
     })
     first (ap is_some put)
 
--- all pages are above, so that none is needed below
-pub lifted_all : (old now new : Layers) (least : ℕ) → IsLifted least old now → None ≡ first_from least now.below → new.above ≡ now.above → new.below ≡ []
-    → memory_in new ≡ memory_in old
-lifted_all old now new least is none above below =
-    λ i a. get_or (unwrap_or (pages_same (a / 1024) i) zero_page) (a % 1024) 0
+-- all pages are above
+pub copied_all : (old now : Layers) (least : ℕ) → IsLifted least old now → None ≡ first_from least now.below → (n : ℕ) → page_in now.above n ≡ layer_page old n
+copied_all old now least is none n = sym shown ∙ is.same n
   where
-    shown : (n : ℕ) → layer_page now n ≡ page_in now.above n
-    shown n = ⊎_elim (λ from. above_alone now n (none_after now.below least n none from.1)) (λ before. is.lifted n before.1) (leb_tells least n)
+    shown : layer_page now n ≡ page_in now.above n
+    shown = ⊎_elim (λ from. above_alone now n (none_after now.below least n none from.1)) (λ before. is.lifted n before.1) (leb_tells least n)
 
-    pages_same : (n : ℕ) → layer_page new n ≡ layer_page old n
-    pages_same n =
-        above_alone new n (ap (λ (s : Stored). stored_at s n) below)
-        ∙ ap (λ (pages : List (Option (List ℕ))). page_in pages n) above ∙ sym (shown n) ∙ is.same n
+-- a page that wasn't opened above
+pub opened_none : (old now : Layers) (new : List (Option (List ℕ))) (least : ℕ) → IsLifted least old now → ((n : ℕ) → page_in new n ≡ page_in now.above n)
+    → (n : ℕ) → layer_page (record { above = new; below = now.below }) n ≡ layer_page old n
+opened_none old now new least is kept n = ap (λ (o : Option (List ℕ)). option_or o (stored_at now.below n)) (kept n) ∙ is.same n
+
+-- layers that show the same pages have the same bytes
+pub same_shown : (old new : Layers) → ((n : ℕ) → layer_page new n ≡ layer_page old n) → memory_in new ≡ memory_in old
+same_shown old new same = λ i a. get_or (unwrap_or (same (a / 1024) i) zero_page) (a % 1024) 0
+
+-- none is needed below, where all are above
+pub lifted_all : (old new : Layers) → new.below ≡ [] → ((n : ℕ) → page_in new.above n ≡ layer_page old n) → memory_in new ≡ memory_in old
+lifted_all old new below copied = same_shown old new (λ n. above_alone new n (ap (λ (s : Stored). stored_at s n) below) ∙ copied n)
+
+-- the pages that are copied are those of the map, where none was above
+pub copied_bytes : (above : List (Option (List ℕ))) (below : Stored) (new : Layers) → ((n : ℕ) → page_in above n ≡ None) → new.below ≡ []
+    → ((n : ℕ) → page_in new.above n ≡ layer_page (record { above = above; below = below }) n) → (a : ℕ) → memory_in new a ≡ memory_of below a
+copied_bytes above below new none nothing copied a =
+    ap (λ (m : ℕ → ℕ). m a) (lifted_all (record { above = above; below = below }) new nothing copied)
+    ∙ ap (λ (o : Option (List ℕ)). get_or (unwrap_or (option_or o (stored_at below (a / 1024))) zero_page) (a % 1024) 0) (none (a / 1024))

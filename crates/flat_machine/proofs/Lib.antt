@@ -1,4 +1,5 @@
 pub mod FullPages
+pub mod Followed
 pub mod Layered
 pub mod RunFeet
 pub mod RunPaid

@@ -1,5 +1,6 @@
-ghost use Rattle.std.specs.Prelude.{◌≡◌, ◌≢◌, ◌+◌, ◌-◌, ◌^◌, ◌<◌, ◌≤◌, ℕ, List, IsTrue, IsFalse, None, IfOk, OnOk, OnErr, IfSome, IfNone};
+ghost use Rattle.std.specs.Prelude.{◌≡◌, ◌≢◌, ◌+◌, ◌-◌, ◌%◌, ◌^◌, ◌<◌, ◌≤◌, ℕ, List, IsTrue, IsFalse, None, IfOk, OnOk, OnErr, IfSome, IfNone};
 ghost use Rattle.page_core.specs.Images.{Image as PlainImage};
+ghost use Rattle.page_core.specs.Memory.{top};
 ghost use Rattle.page_core.specs.Memories.{page_of};
 ghost use Rattle.elf_image.specs.Loaded.{image_of};
 ghost use Rattle.rv_step.specs.Machine.{full, full_of, foot_of, step_cost, step_of};
@@ -7,6 +8,7 @@ ghost use Rattle.rv_step.specs.Stepping.{fault_in};
 ghost use Rattle.page_core.specs.declared.sizes.TheConstants.{PAGES, REGISTER_PAGE};
 ghost use Rattle.rv_step.specs.Quick.{GoesQuickly};
 ghost use Rattle.rv_step.specs.Runs.{start, after};
+ghost use Rattle.flat_machine.specs.Layers.{memory_in};
 ghost use Rattle.flat_machine.specs.Going.{flat_state, went_steps, IsRunOf, DoesOne, DoesNone, DoesLast, IsRunEnd};
 
 use crate::memory::FlatMemory;
@@ -94,12 +96,24 @@ impl Flat {
         ensures start { result.steps ≡ 0 }
         ensures stands { IsRunOf result (image_of image) words.items }
     {
+        let memory = FlatMemory::new(alloc, image.map);
+        Flat::begun(alloc, image.entry, memory, words)
+    }
+
+    // The run from an entry over a memory that is zero from the register page on, at its start. It takes no memory.
+    fn begun(alloc: Global, entry: u32, memory: FlatMemory, words: WordList) -> Flat
+        requires aligned { entry % 4 ≡ 0 }
+        requires rest { (a : ℕ) → top ≤ a → memory_in memory a ≡ 0 }
+        ensures start { result.steps ≡ 0 }
+        ensures stands { (image : PlainImage) → image.entry ≡ entry →
+            ((a : ℕ) → memory_in memory a ≡ image.memory a) → IsRunOf result image words.items }
+    {
         Flat {
             core: Core {
-                pc: image.entry,
+                pc: entry,
                 regs: Regs::new(),
             },
-            memory: FlatMemory::new(alloc, image.map),
+            memory,
             tape: WordTape::new(words),
             log: RunLog::new(alloc),
             table: DecodeTable::new(alloc),
@@ -108,6 +122,15 @@ impl Flat {
             halted: None,
             alloc,
         }
+    }
+
+    /// The run of an image, which is copied, and input words, at its start. An AllocError is want of memory.
+    pub fn copying(alloc: Global, image: &Image, words: WordList) -> Result<Flat, AllocError>
+        ensures start { IfOk result (λ flat. flat.steps ≡ 0) }
+        ensures stands { IfOk result (λ flat. IsRunOf flat (image_of image.now) words.items) }
+    {
+        let memory = FlatMemory::copy_of(alloc, &image.map)?;
+        Ok(Flat::begun(alloc, image.entry, memory, words))
     }
 
     /// Runs to the outcome under a limit on the cost of all steps from the start, which the steps so far keep. After an

@@ -1,6 +1,7 @@
-ghost use Rattle.std.specs.Prelude.{◌≡◌, ℕ, None, OnOk, option_map};
+ghost use Rattle.std.specs.Prelude.{◌≡◌, ℕ, None, IfOk, OnOk, option_map};
 ghost use Rattle.page_core.specs.Pages.{IsPage};
 ghost use Rattle.page_core.specs.Stored.{stored_at, memory_of};
+ghost use Rattle.rv_step.specs.Opened.{page_in};
 ghost use Rattle.flat_machine.specs.Layers.{layer_page, layered_pages, memory_in};
 
 use page_core::{PAGES, Page, PageMap};
@@ -37,6 +38,19 @@ impl FlatMemory {
         }
     }
 
+    // The memory of a map, whose pages are copied. An AllocError is want of memory.
+    pub(crate) fn copy_of(alloc: Global, map: &PageMap) -> Result<FlatMemory, AllocError>
+        ensures { IfOk result (λ memory. (a : ℕ) → memory_in memory a ≡ memory_of map.now a) }
+    {
+        let mut above = OpenPages::new(alloc);
+        copy_pages(&mut above, map)?;
+        Ok(FlatMemory {
+            above,
+            below: PageMap::new(alloc),
+            alloc,
+        })
+    }
+
     // The page with this number; None exactly where it is in neither layer, and zero.
     fn page(&self, number: u32) -> Option<&Page>
         ensures { option_map (λ page. page.now) result ≡ layer_page self.now number }
@@ -64,16 +78,28 @@ impl FlatMemory {
         ensures same_bytes { memory_in self.new ≡ memory_in self.old }
         ensures lifted { OnOk result ((n : ℕ) → stored_at self.new.below n ≡ None) }
     {
-        let mut least = 0;
-        while let Some((number, page)) = self.below.next_from(least) {
-            if !self.above.is_open(number) {
-                self.above.open(number, page)?;
-            }
-            least = number + 1;
-        }
+        copy_pages(&mut self.above, &self.below)?;
         self.below = PageMap::new(self.alloc);
         Ok(())
     }
+}
+
+// Copies the pages of a map that aren't in a table into it. Whether it could or not, the page that one of the two layers
+// has under a number is the same.
+fn copy_pages(above: &mut OpenPages, below: &PageMap) -> Result<(), AllocError>
+    ensures same { (n : ℕ) → layer_page (record { above = above.new; below = below.now }) n
+        ≡ layer_page (record { above = above.old; below = below.now }) n }
+    ensures copied { OnOk result ((n : ℕ) →
+        page_in above.new n ≡ layer_page (record { above = above.old; below = below.now }) n) }
+{
+    let mut least = 0;
+    while let Some((number, page)) = below.next_from(least) {
+        if !above.is_open(number) {
+            above.open(number, page)?;
+        }
+        least = number + 1;
+    }
+    Ok(())
 }
 
 impl Bus for FlatMemory {

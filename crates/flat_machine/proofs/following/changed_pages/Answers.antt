@@ -4,9 +4,9 @@ use Rattle.page_core.specs.Pages.{Pages}
 use Rattle.page_core.specs.Stored.{Stored, stored_pages}
 use Rattle.rv_step.specs.Machine.{full}
 use Rattle.flat_machine.specs.Going.{flat_state}
-use Rattle.executor.specs.Changed.{changed, changed_page}
-use Rattle.executor.proofs.Changed.{changed_none, changed_more}
-use Rattle.executor.proofs.beginning.changed_pages.Goals as goal
+use Rattle.flat_machine.specs.Following.{changed, changed_page}
+use Rattle.flat_machine.proofs.Followed.{changed_none, changed_more}
+use Rattle.flat_machine.proofs.following.changed_pages.Goals as goal
 
 pub loop-page-init : goal.loop-page-init
 loop-page-init g c = c.new-list.ensures.items ∙ sym (changed_none (stored_pages c.args.tree.now) (page_of (full (flat_state c.args.flat.now))))

@@ -3,8 +3,8 @@ use Rattle.page_core.specs.Memories.{page_of}
 use Rattle.page_core.specs.Stored.{stored_pages}
 use Rattle.rv_step.specs.Machine.{full}
 use Rattle.flat_machine.specs.Going.{flat_state}
-use Rattle.executor.specs.Changed.{changed}
-use Rattle.executor.proofs.beginning.changed_pages.Given as goal
+use Rattle.flat_machine.specs.Following.{changed}
+use Rattle.flat_machine.proofs.following.changed_pages.Given as goal
 
 -- those of the pages so far are copied
 abbrev pub invariant-loop-page : goal.invariant-loop-page

@@ -2,7 +2,7 @@ use Rattle.std.proofs.Common.{ℕ, List, Option, ap, ◌∙◌}
 use Rattle.std.specs.Prelude.{unwrap_or}
 use Rattle.std.specs.Str.{bytes_eq}
 use Rattle.page_core.specs.Pages.{zero_page}
-use Rattle.executor.proofs.beginning.has_bytes.Goals as goal
+use Rattle.flat_machine.proofs.following.has_bytes.Goals as goal
 
 pub returns-in-None : goal.returns-in-None
 unfolding zero_page

@@ -15,8 +15,7 @@ use Rattle.page_tree.specs.Grown.{AscendFrom, stored_with_all}
 use Rattle.page_tree.proofs.Merged.{numbers_ascend, stored_at-with_all, at_head, at_rest}
 use Rattle.page_tree.proofs.Sides.{ascend_before}
 use Rattle.rv_step.specs.Machine.{State, full}
-use Rattle.executor.specs.Changed.{changed_page, changed}
-use Rattle.executor.specs.Cutting.{HoldsMemory}
+use Rattle.flat_machine.specs.Following.{HoldsMemory, changed_page, changed}
 
 -- ---- pages that ascend
 pub all_below : (least : ℕ) (pages : List ℕ) → AscendFrom least pages → All (λ page. page < 262144) pages
