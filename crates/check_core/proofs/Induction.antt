@@ -29,6 +29,17 @@ use Rattle.part_tree.proofs.Splits.{first_shown, then_shown, Held, agree_or_show
 use Rattle.lift_join.proofs.Inversion.{HasClaim, has_claim, joins}
 use Rattle.check_core.proofs.Stretches.{onward}
 
+-- a split claim's end
+pub split_end : (H : List ℕ → List ℕ) (seal : Seal) (claim : SpanClaim) → (h : HasClaim H seal claim) → claim.exit ≡ Split → ending seal ≡ Some (Split, h.state)
+split_end H seal claim h e =
+    let is : h.exit ≡ Split = sym (ap (λ (c : SpanClaim). c.exit) h.is) ∙ e in
+    h.ends ∙ ap (λ (x : Exit). Some (x, h.state)) is
+
+pub split_after : (H : List ℕ → List ℕ) (seal : Seal) (claim : SpanClaim) → (h : HasClaim H seal claim) → claim.exit ≡ Split → claim.after ≡ record { pc = h.state.pc; root = root_of H (put_tree seal h.state) }
+split_after H seal claim h e =
+    let is : h.exit ≡ Split = sym (ap (λ (c : SpanClaim). c.exit) h.is) ∙ e in
+    ap (λ (c : SpanClaim). c.after) h.is ∙ ap (λ (x : Exit). (claim_at H seal (x, h.state)).after) is
+
 module _ (H : List ℕ → List ℕ) (is_digest : (x : List ℕ) → IsDigest (H x)) (all : List (List ℕ)) where
   held_left : (xs ys : List (List ℕ)) → Held H all (xs ++ ys) → Held H all xs
   held_left xs ys held x c = held x (Contains-append_left xs ys x c)
@@ -47,17 +58,6 @@ module _ (H : List ℕ → List ℕ) (is_digest : (x : List ℕ) → IsDigest (H
   end_held seal t ends mine =
       subst (λ (o : Option (Exit × State)). Held H all (end_strings H seal o)) ends
       (held_right (part_strings H seal.tree) (end_strings H seal (ending seal)) mine)
-
-  -- a split claim's end
-  split_end : (seal : Seal) (claim : SpanClaim) → (h : HasClaim H seal claim) → claim.exit ≡ Split → ending seal ≡ Some (Split, h.state)
-  split_end seal claim h e =
-      let is : h.exit ≡ Split = sym (ap (λ (c : SpanClaim). c.exit) h.is) ∙ e in
-      h.ends ∙ ap (λ (x : Exit). Some (x, h.state)) is
-
-  split_after : (seal : Seal) (claim : SpanClaim) → (h : HasClaim H seal claim) → claim.exit ≡ Split → claim.after ≡ record { pc = h.state.pc; root = root_of H (put_tree seal h.state) }
-  split_after seal claim h e =
-      let is : h.exit ≡ Split = sym (ap (λ (c : SpanClaim). c.exit) h.is) ∙ e in
-      ap (λ (c : SpanClaim). c.after) h.is ∙ ap (λ (x : Exit). (claim_at H seal (x, h.state)).after) is
 
   pub agree_all : (r s : State) (b : ℕ) (seals : List Seal) (claim : SpanClaim) (code : ℕ) → chain_of H seals ≡ Some claim → claim.exit ≡ HaltedWith code → AreSeals seals
       → after r b ≡ Some s → IsReady s → s.words ≡ words_of seals → claim.before.pc ≡ s.pc → claim.before.root ≡ root H (page_of (full s))
@@ -85,9 +85,9 @@ module _ (H : List ℕ → List ℕ) (is_digest : (x : List ℕ) → IsDigest (H
       let rest_pair = seals_pair H (after s seal.steps) (next ∷ seals) in
       elim (agrees s seal good.0 my_root held of_seal) [
         | inl a ↦
-            let ends = split_end seal j.left h j.split in
+            let ends = split_end H seal j.left h j.split in
             let on = onward H r s b seal (words_of (next ∷ seals)) reached fit supplied h.clean good.0.some_steps my_pc a h.state ends in
-            let meets : j.right.before ≡ record { pc = h.state.pc; root = root_of H (put_tree seal h.state) } = sym j.meets ∙ split_after seal j.left h j.split in
+            let meets : j.right.before ≡ record { pc = h.state.pc; root = root_of H (put_tree seal h.state) } = sym j.meets ∙ split_after H seal j.left h j.split in
             let next_held : Held H all (tree_strings H (page_of (full on.state)) 18 0) =
             λ x c. elim (on.strings x c) [ inl old ↦ held x old | inr new ↦ end_held seal h.state ends of_seal x new ] in
             elim (agree_all r on.state (b + seal.steps) (next ∷ seals) j.right code j.is_right (sym (ap (λ (c : SpanClaim). c.exit) j.is) ∙ exit) good.1

@@ -11,3 +11,15 @@ pub use Rattle.check_core.proofs.Claims
 pub use Rattle.check_core.proofs.Linked
 -- the bytes of an accepted bundle aren't refused
 pub use Rattle.check_core.proofs.Refusing
+-- what a seal that agrees with the run tells of the run's next stretch
+pub use Rattle.check_core.proofs.Stretches
+-- the claims of seals that end in Split
+pub use Rattle.check_core.proofs.Induction
+-- strings of states that are the same are those of one state
+pub use Rattle.check_core.proofs.Strings
+-- what is compared stands in what is hashed
+pub use Rattle.check_core.proofs.Members
+-- the theorems on bundles
+pub use Rattle.check_core.proofs.Vouched
+-- a refusal under the digest of a bundle's own first state
+pub use Rattle.check_core.proofs.Stopping

@@ -2,6 +2,7 @@
 use Rattle.std.proofs.Common.{◌≡◌, ◌⊎◌, inl, inr, ℕ, zero, suc, ◌+◌, ◌/◌, ◌<◌, List, ◌++◌, Some, None, sym, ap, ◌∙◌, subst, arith}
 use Rattle.std.specs.Prelude.{Contains}
 use Rattle.part_tree.specs.Tree.{root, tree_strings}
+use Rattle.part_tree.specs.Laws.{SameUnopened}
 use Rattle.part_tree.specs.Part.{Part, open_numbers, part_strings, root_of, Agree}
 use Rattle.part_tree.proofs.Change.{put_has_new_strings}
 use Rattle.page_core.specs.Memory.{Within}
@@ -47,6 +48,7 @@ pub record Onward (H : List ℕ → List ℕ) (r s : State) (b : ℕ) (seal : Se
   pub words : state.words ≡ rest
   pub pc : state.pc ≡ t.pc
   pub root_is : root_of H (put_tree seal t) ≡ root H (page_of (full state))
+  pub unopened : SameUnopened (page_of (full s)) (page_of (full state)) 18 0 seal.tree
   pub strings : (x : List ℕ) → Contains (tree_strings H (page_of (full state)) 18 0) x
       → Contains (tree_strings H (page_of (full s)) 18 0) x ⊎ Contains (part_strings H (put_tree seal t)) x
 
@@ -67,13 +69,16 @@ module _ (H : List ℕ → List ℕ) (r s : State) (b : ℕ) (seal : Seal) (rest
     registers : Contains (open_numbers 0 seal.tree) 262143
     registers = opens_registers r s b seal rest reached fit supplied clean some_steps begins
 
+    pub same_unopened : SameUnopened (page_of (full s)) (page_of (full v)) 18 0 seal.tree
+    same_unopened = unopened H seal s v t agree registers leaves like.memory
+
     pub root_after : root_of H (put_tree seal t) ≡ root H (page_of (full v))
     root_after = new_root H seal s v t agree registers leaves like.memory
 
     pub new_strings : (x : List ℕ) → Contains (tree_strings H (page_of (full v)) 18 0) x
         → Contains (tree_strings H (page_of (full s)) 18 0) x ⊎ Contains (part_strings H (put_tree seal t)) x
     new_strings x c =
-        elim (put_has_new_strings H (page_of (full s)) (page_of (full v)) 18 0 seal.tree agree (unopened H seal s v t agree registers leaves like.memory) x c) [
+        elim (put_has_new_strings H (page_of (full s)) (page_of (full v)) 18 0 seal.tree agree same_unopened x c) [
           | inl old ↦ inl old
           | inr new ↦ inr (subst (λ (p : Part). Contains (part_strings H p) x) (sym (same_put H seal s v t agree registers leaves like.memory)) new)
         ]
@@ -90,5 +95,6 @@ module _ (H : List ℕ → List ℕ) (r s : State) (b : ℕ) (seal : Seal) (rest
         words = like.words ∙ ap (λ (ws : List ℕ). ws ++ rest) (all_used seal Split t clean ends);
         pc = like.pc;
         root_is = root_after t ends v from_s like;
+        unopened = same_unopened t ends v from_s like;
         strings = new_strings t ends v from_s like;
       }

@@ -55,7 +55,7 @@ faithful_vouches H B id e image good is_image accepts f =
 
 module _ (H : List ℕ → List ℕ) (is_digest : (x : List ℕ) → IsDigest (H x)) where
   -- the first state of seals has a word and a digest
-  first_fits : (seals : List Seal) (first : SystemState) → AreSeals seals → first_of H seals ≡ Some first → (first.pc < 2 ^ 32) × (length first.root ≡ 32)
+  pub first_fits : (seals : List Seal) (first : SystemState) → AreSeals seals → first_of H seals ≡ Some first → (first.pc < 2 ^ 32) × (length first.root ≡ 32)
   first_fits [] first good h = absurd (cc)
   first_fits (seal ∷ seals) first good h =
       subst (λ (s : SystemState). (s.pc < 2 ^ 32) × (length s.root ≡ 32)) (same_Some _ first h)

@@ -15,7 +15,7 @@ mod stop;
 
 pub use checked::Checked;
 pub use checking::check;
-pub use judging::{check_bundle, first_id};
+pub use judging::{Judged, check_bundle, first_id, judge};
 pub use laws::{
     accepted_unstopped, calls_hold, faithful_vouches, hashed_are_bytes, headline, headline_of_sha,
 };

@@ -22,7 +22,7 @@ of_either (Some x) p pair e = inl e
 of_either None p pair e = inr e
 
 -- two strings that differ are the pair
-differ_some : (x y : List ℕ) (pair : Pair) → differ x y ≡ Some pair → (x ≡ pair.left) × (y ≡ pair.right)
+pub differ_some : (x y : List ℕ) (pair : Pair) → differ x y ≡ Some pair → (x ≡ pair.left) × (y ≡ pair.right)
 differ_some x y pair e = go (bytes_eq x y) e
   where
     go : (b : Bool) → cond b None (Some (record { left = x; right = y })) ≡ Some pair → (x ≡ pair.left) × (y ≡ pair.right)
@@ -41,7 +41,7 @@ none_from_IsNone None e = refl
 
 module _ (H : List ℕ → List ℕ) where
   -- the left string is hashed in the tree, the right one in the memory's
-  split_strings : (m : Pages) (h i : ℕ) (t : Part) (pair : Pair) → split_of H m h i t ≡ Some pair → Contains (part_strings H t) pair.left × Contains (tree_strings H m h i) pair.right
+  pub split_strings : (m : Pages) (h i : ℕ) (t : Part) (pair : Pair) → split_of H m h i t ≡ Some pair → Contains (part_strings H t) pair.left × Contains (tree_strings H m h i) pair.right
   unfolding tree_strings
   split_strings m h i (pruned digest) pair e = absurd (cc)
   split_strings m zero i (branch left right) pair e = absurd (cc)
