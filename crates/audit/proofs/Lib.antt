@@ -1,0 +1,11 @@
+pub mod Same
+pub mod Opened
+pub mod Walked
+pub mod Gone
+pub mod Steps
+pub mod Calls
+pub mod Earlier
+pub mod Turns
+pub mod Placed
+pub mod Compared
+pub mod Refused
