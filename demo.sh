@@ -2,8 +2,8 @@
 # Proves and builds zk_check and zk_prove, and leaves them in bin/. Prints the image id of a guest, checks a receipt under this
 # id and under another one, and then 36 bytes that claim 16,777,216 input words, in 20 MB of address space: room is made for
 # the words that are there alone. Runs a guest that was written in C on the words 1071 and 462, proves that run, and checks
-# its receipt under the guest's image id, with its journal in a file; prints its claims; and checks the receipt with one byte
-# changed, so that it claims one step more.
+# its receipt under the guest's image id, with its journal in a file; prints its claims; audits it against the guest's own
+# run; and checks and audits the receipt with one byte changed, so that it claims one step more.
 set -u
 cd "$(dirname "$0")" || exit 1
 
@@ -71,7 +71,10 @@ id=$(bin/zk_check id "$guest" | cut -d ' ' -f 2)
 show 0 bin/zk_check check "$made" "$id" "$journal"
 show 0 od -An -td4 "$journal"
 show 0 bin/zk_check inspect "$made"
+show 0 bin/zk_check audit "$made" 0 "$guest"
+show 1 bin/zk_check audit "$made" 0 "$elf"
 
 # The number of steps of the first seal stands at byte 20.
 printf '\041' | dd of="$made" bs=1 seek=20 conv=notrunc 2>/dev/null
 show 1 bin/zk_check check "$made" "$id"
+show 1 bin/zk_check audit "$made" 0 "$guest"

@@ -1,4 +1,5 @@
 pub mod Check
+pub mod Audit
 pub mod Id
 pub mod Inspect
 pub mod Top

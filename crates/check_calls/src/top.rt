@@ -2,8 +2,9 @@
 ghost use Rattle.std.specs.Prelude.{◌≡◌, ◌≢◌, ◌+◌, ◌≤◌, ◌⊎◌, map, string_bytes, Err};
 ghost use Rattle.outside.specs.Faults.{Rose};
 ghost use Rattle.command_frame.specs.Ends.{Ends, HasCause, IsDoneOrFails, IsEnded, MayWrite};
-ghost use Rattle.check_calls.specs.Top.{CheckTable, CheckJobTable, CompletesCheck, IsDoneCheck, CheckReads, IsCheckUsage, NamesSomeCheck};
+ghost use Rattle.check_calls.specs.Top.{CheckTable, CheckJobTable, CompletesCheck, IsDoneCheck, IsCollision, IsCheckUsage, NamesSomeCheck};
 
+use crate::audit_receipt::audit_entry;
 use crate::check::check_receipt;
 use crate::id::identify;
 use crate::inspect::inspect;
@@ -24,6 +25,10 @@ pub fn check_top<D: Digester, K: Desk, O: Sink>(
 ) -> Status
     // What a status of 0 tells, by the command. Of a check it has the headline.
     ensures done { result ≡ Status.Done → IsDoneCheck D.digest_of (map string_bytes words.now)
+        (K.contents desk.old) (K.contents desk.new) (O.taken out.old) (O.taken out.new) }
+    // What a collision tells: two strings with one digest.
+    ensures collision { result ≡ Status.Collision →
+        IsCollision D.digest_of (map string_bytes words.now)
         (K.contents desk.old) (K.contents desk.new) (O.taken out.old) (O.taken out.new) }
     // Where nothing stands against it, the status is 0, or there was a fault or want of memory.
     ensures complete { CompletesCheck D.digest_of (map string_bytes words.now)
@@ -73,7 +78,7 @@ fn answer_job<D: Digester, K: Desk>(
 ) -> Result<Answer, End>
     ensures answer { IsEnded (CheckJobTable D.digest_of job (K.contents desk.old)) result }
     ensures fault { result ≡ Err End.ReadFault →
-        CheckReads job × Rose (K.read_faults desk.old) (K.read_faults desk.new) }
+        Rose (K.read_faults desk.old) (K.read_faults desk.new) }
     ensures contents { K.contents desk.new ≡ K.contents desk.old }
     ensures write_faults { K.write_faults desk.new ≡ K.write_faults desk.old }
 {
@@ -84,7 +89,11 @@ fn answer_job<D: Digester, K: Desk>(
             id,
             journal,
         } => check_receipt::<D, K>(alloc, desk, &receipt, &id, Some(journal)),
-        CheckJob::Audit { .. } => usage(alloc),
+        CheckJob::Audit {
+            receipt,
+            entry,
+            elf,
+        } => audit_entry::<D, K>(alloc, desk, &receipt, entry, &elf),
         CheckJob::Id { elf } => identify::<D, K>(alloc, desk, &elf),
         CheckJob::Inspect { receipt } => inspect::<D, K>(alloc, desk, &receipt),
     }

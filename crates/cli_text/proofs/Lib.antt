@@ -1,4 +1,5 @@
 pub mod Text
+pub mod Auditing
 pub mod Telling
 pub mod Naming
 pub mod Items

@@ -4,6 +4,7 @@ pub mod Files
 pub mod Reports
 pub mod Runs
 pub mod Refusals
+pub mod Audits
 pub mod Usages
 pub mod Name
 pub mod Told

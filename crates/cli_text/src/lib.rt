@@ -1,6 +1,7 @@
 //! The words of the programs over receipts and guest files, and what they print: the lines of each answer, and its status.
 #![tactic(auto)]
 
+mod audits;
 mod check_words;
 mod files;
 mod journals;
@@ -14,6 +15,7 @@ mod texts;
 mod usages;
 mod values;
 
+pub use audits::{audit_stop_text, finding_text};
 pub use check_words::{CheckJob, check_words_name_one, parse_check};
 pub use files::{bad_input_text, elf_stop_text, id_text, no_file_text, too_long_text};
 pub use name::{Name, NameList};

@@ -1,8 +1,8 @@
 #!/bin/bash
 # Prints all that README tells of time and memory, once `rt run` has built zk_rows, zk_prove and zk_check: what the rows of
 # measure.rows take, in microseconds; of ten million steps of a guest in C, the processor instructions a step of the run,
-# of its proof in 70 segments and of the check of its receipt, as callgrind counts them; and the most memory that a run of
-# a million steps and its proof in 71 segments hold, over a memory of 20,000 stored pages of 1 KiB.
+# of its proof in 70 segments and of the check and the audit of its receipt, as callgrind counts them; and the most memory
+# that a run of a million steps and its proof in 71 segments hold, over a memory of 20,000 stored pages of 1 KiB.
 set -eu
 cd "$(dirname "$0")"
 
@@ -24,6 +24,7 @@ count() {
 count "$prove" exec "$loop" "$work/none" 16777216
 count "$prove" prove "$loop" "$work/none" "$work/receipt" 143000 1024 16777216 0
 count "$check" check "$work/receipt" "$id"
+count "$check" audit "$work/receipt" 0 "$loop"
 
 # The ELF file of the guest of measure.rows, in 20,000 pages that are loaded.
 bytes() { printf '%b' "$(sed 's/../\\x&/g' <<<"${1// /}")"; }

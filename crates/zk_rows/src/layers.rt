@@ -1,5 +1,6 @@
 //! The rows of the lower layers.
 
+use crate::audits::add_place;
 use crate::calls::{grow_foot, meter_steps, read_registers};
 use crate::digests::add_digest;
 use crate::fields::take_fields;
@@ -129,7 +130,7 @@ fn low_row(
     }
 }
 
-// A tree, or a digest.
+// A tree, the place of an audit, or a digest.
 fn digest_row<D: Digester>(
     alloc: Global,
     shelf: &Shelf,
@@ -139,8 +140,9 @@ fn digest_row<D: Digester>(
     let Some((first, words)) = words.split_first() else {
         return Err(RowStop::NoRow);
     };
-    if *first == "tree" {
-        return ask_tree::<D>(alloc, shelf, out, words);
+    match *first {
+        "tree" => ask_tree::<D>(alloc, shelf, out, words),
+        "audit-place" => add_place::<D>(alloc, shelf, out, words),
+        first => add_digest::<D>(alloc, shelf, out, first, words),
     }
-    add_digest::<D>(alloc, shelf, out, first, words)
 }

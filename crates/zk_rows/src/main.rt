@@ -3,6 +3,7 @@
 //! docs/ROWS.md has the language.
 #![tactic(auto)]
 
+mod audits;
 mod calls;
 mod digests;
 mod elf;
@@ -186,7 +187,7 @@ fn named_row<R: Threads + Wait + Sync + Files + AllocGlobal>(
             *faults = Faults::read(rt.alloc(), words)?;
             Ok(())
         }
-        "check" | "weak-check" | "exec" | "prove" => {
+        "check" | "weak-check" | "exec" | "prove" | "weak-prove" => {
             run(rt, shelf, out, faults, first, words)?;
             *faults = Faults::none(rt.alloc());
             Ok(())

@@ -5,6 +5,7 @@ ghost use Rattle.part_tree.specs.Canonical.{IsCanonical};
 ghost use Rattle.part_tree.specs.Views.{part};
 ghost use Rattle.page_tree.specs.Grown.{AscendFrom};
 
+use crate::audits::split_text;
 use crate::lines::{Hex, Lines};
 use crate::pages::{page_number, page_of, set_pages, stored_text};
 use crate::shelf::Shelf;
@@ -51,7 +52,7 @@ fn is_setting(word: &str) -> bool {
 }
 
 // `root`, `node:HEIGHT,INDEX`, `page:NUMBER`, `open:NUMBER,NUMBER...`, `change:NUMBER=NAME`,
-// `update:NUMBER=NAME,NUMBER=NAME...`.
+// `update:NUMBER=NAME,NUMBER=NAME...`, `split:NAME`.
 fn add_answer<D: Digester>(
     alloc: Global,
     shelf: &Shelf,
@@ -79,6 +80,7 @@ fn answer_of<D: Digester>(
         "open" => opened_text::<D>(alloc, tree, text),
         "change" => changed_text::<D>(alloc, shelf, tree, text),
         "update" => updated_text::<D>(alloc, shelf, tree, text),
+        "split" => split_text::<D>(alloc, shelf, tree, text),
         _ => Err(RowStop::NoRow),
     }
 }

@@ -129,6 +129,9 @@ fn answer<R: Threads + Wait + Sync + AllocGlobal>(
         "weak-check" => Ok(check_top::<WeakDigester, _, _>(alloc, words, desk, sink)),
         "exec" => Ok(exec_top(alloc, words, desk, sink)),
         "prove" => Ok(prove_top::<ShaDigester, _, _, _, _>(rt, alloc, words, desk, sink, &NoGate)),
+        "weak-prove" => Ok(prove_top::<WeakDigester, _, _, _, _>(
+            rt, alloc, words, desk, sink, &NoGate,
+        )),
         _ => Err(RowStop::NoRow),
     }
 }

@@ -20,8 +20,7 @@ returns-in-Ok-Some-clause-answer g c =
 pub returns-in-Ok-Some-clause-fault : goal.returns-in-Ok-Some-clause-fault
 returns-in-Ok-Some-clause-fault g c fault =
     let names : NamesCheck (map string_bytes c.args.words.now) c.in-Ok-Some.job = rw c.in-Ok-Some.field-0-is at c.in-Ok-Some.ensures.some in
-    let (reads, rose) = c.answer_job.ensures.fault (silent_fault c.answer_job.result c.ended.result c.ended.ensures fault) in
-    (record { job = c.in-Ok-Some.job; names = names; reads = reads }, rose)
+    (record { job = c.in-Ok-Some.job; names = names }, c.answer_job.ensures.fault (silent_fault c.answer_job.result c.ended.result c.ended.ensures fault))
 
 pub returns-in-Ok-None-clause-answer : goal.returns-in-Ok-None-clause-answer
 returns-in-Ok-None-clause-answer g c =

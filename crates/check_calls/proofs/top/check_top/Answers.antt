@@ -5,7 +5,7 @@ use Rattle.outside.specs.Faults.{Rose}
 use Rattle.command_frame.proofs.Causes.{cause_printed}
 use Rattle.command_frame.proofs.After.{done_or_fails, end_written, ends_after}
 use Rattle.check_calls.specs.Top.{CheckTable}
-use Rattle.check_calls.proofs.Commands.{top_done, top_passes}
+use Rattle.check_calls.proofs.Commands.{top_done, top_collision, top_passes}
 use Rattle.check_calls.proofs.top.check_top.Goals as goal
 
 pub put_end-requires : goal.put_end-requires
@@ -24,6 +24,14 @@ returns-clause-done g c done =
     let words = map string_bytes c.args.words.now in
     let told : Option Files = g.K.Desk.contents c.args.desk.now in
     top_done H c.headline.ensures.vouches c.faithful_vouches.ensures told _ _ _ words c.put_end.result done
+    (ends_after (CheckTable H words told) c.answer-end.result c.put_end.result told _ _ _ _ c.answer-end.ensures.contents c.answer-end.ensures.answer c.put_end.ensures.puts)
+
+pub returns-clause-collision : goal.returns-clause-collision
+returns-clause-collision g c collides =
+    let H = g.D.Digester.digest_of in
+    let words = map string_bytes c.args.words.now in
+    let told : Option Files = g.K.Desk.contents c.args.desk.now in
+    top_collision H told _ _ _ words c.put_end.result collides
     (ends_after (CheckTable H words told) c.answer-end.result c.put_end.result told _ _ _ _ c.answer-end.ensures.contents c.answer-end.ensures.answer c.put_end.ensures.puts)
 
 pub returns-clause-complete : goal.returns-clause-complete
